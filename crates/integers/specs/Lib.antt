@@ -1,0 +1,6 @@
+-- Laws of ℤ: an integer as a difference, distances, rounding down and to the nearest, signed machine numbers.
+pub mod Difference
+pub mod Distance
+pub mod Rounding
+pub mod Machine
+pub mod Tests

@@ -1,0 +1,174 @@
+-- Signed machine integers on the parts: ranges, tests, and what the machine reads back from a number's bits.
+use mathlib.Core.Path.{_≡_, refl, sym, ap, subst, _∙_}
+use mathlib.Core.Bool.{Bool, true, false, not}
+use Prim.Native.Nat.{ℕ, suc, _+_, _^_, _≤_, _<_, max}
+use native.Mathlib.Omega.{arith}
+use lib.Dec.{T, ltb, eqb, nleb→lt}
+use lib.IntN.{ℤ, pos, negsuc, natAbs, _+ℤ_, _-ℤ_, _*ℤ_}
+use lib.Signed.{mag, nonNeg, _≤ℤ_, leZ, ltZ, leZ-yes, ltZ-yes, ltZ-no}
+use mir.Syntax.{Width}
+use mir.Val.{Fits, SFits, toZ, ofZ, bits, hbits}
+use mir.Facts.{toZ-ofZ, toZ-pos, fits-natAbs}
+use borrow.Author.Tests.{ltb-true, ltb-false, leb-true, leb-false, lt-ltb, le-ltb, le-leb, lt-leb, eqb-true, eqb-false, eq-eqb, ne-eqb}
+use Rattle.integers.specs.Difference.{up, down, order, ≤ℤ-parts, <ℤ-parts, parts-≤ℤ, parts-<ℤ, Difference, var, _⊖_}
+use Rattle.integers.specs.Distance.{size, abs-is}
+
+-- A range for `omega` to find by itself: with no case to split, it leaves open the one number 2 ^ hbits above the range
+pub sfits-parts : (w : Width) (z : ℤ) → SFits w z → up z + down z ≤ 2 ^ hbits w
+sfits-parts w (pos n) f = omega (arith, f .sfits)
+sfits-parts w (negsuc n) f = omega (arith, f .sfits)
+
+-- the exact range, to be listed where that number matters: `range (c .fits .x)`
+pub record Range (w : Width) (z : ℤ) : Type 0 where
+  pub above : up z < 2 ^ hbits w
+  pub below : down z ≤ 2 ^ hbits w
+  pub total : up z + down z ≤ 2 ^ hbits w
+
+pub range : {w : Width} {z : ℤ} → SFits w z → Range w z
+range {w} {z = pos n} f = omega (arith, f .sfits)
+range {w} {z = negsuc n} f = omega (arith, f .sfits)
+
+pub parts-sfits : (w : Width) (z : ℤ) → max (down z + down z) (suc (up z + up z)) ≤ 2 ^ hbits w + (up z + down z) → SFits w z
+parts-sfits w (pos n) h = record { sfits = omega arith }
+parts-sfits w (negsuc n) h = record { sfits = omega arith }
+
+-- ---- a test's outcome, as a condition leaves it, and as a clause asks it
+by-true : {P : Type 0} (b : Bool) → (T b → P) → b ≡ true → P
+by-true b f e = f (subst T (sym e) tt)
+
+by-false : {P : Type 0} (b : Bool) → (T (not b) → P) → b ≡ false → P
+by-false b f e = f (subst (λ (t : Bool). T (not t)) (sym e) tt)
+
+to-true : (b : Bool) → T b → b ≡ true
+to-true true t = refl
+to-true false t = absurd t
+
+to-false : (b : Bool) → (T b → ⊥) → b ≡ false
+to-false true f = absurd (f tt)
+to-false false f = refl
+
+not-le : (x y : ℤ) → T (not (leZ x y)) → up y + down x < up x + down y
+not-le (pos a) (pos b) t = omega (arith, nleb→lt a b t)
+not-le (pos a) (negsuc b) t = omega arith
+not-le (negsuc a) (pos b) t = absurd t
+not-le (negsuc a) (negsuc b) t = omega (arith, nleb→lt b a t)
+
+pub ltZ-true : (x y : ℤ) → ltZ x y ≡ true → up x + down y < up y + down x
+ltZ-true x y = by-true (ltZ x y) (λ t. <ℤ-parts x y (ltZ-yes t))
+
+pub ltZ-false : (x y : ℤ) → ltZ x y ≡ false → up y + down x ≤ up x + down y
+ltZ-false x y = by-false (ltZ x y) (λ t. ≤ℤ-parts y x (ltZ-no t))
+
+pub leZ-true : (x y : ℤ) → leZ x y ≡ true → up x + down y ≤ up y + down x
+leZ-true x y = by-true (leZ x y) (λ t. ≤ℤ-parts x y (leZ-yes t))
+
+pub leZ-false : (x y : ℤ) → leZ x y ≡ false → up y + down x < up x + down y
+leZ-false x y = by-false (leZ x y) (not-le x y)
+
+pub is-ltZ : (x y : ℤ) → up x + down y < up y + down x → ltZ x y ≡ true
+is-ltZ x y h = to-true (ltZ x y) (parts-<ℤ x y h .lt)
+
+pub not-ltZ : (x y : ℤ) → up y + down x ≤ up x + down y → ltZ x y ≡ false
+not-ltZ x y h = to-false (ltZ x y) (λ t. let k = <ℤ-parts x y (ltZ-yes t) in omega arith)
+
+pub is-leZ : (x y : ℤ) → up x + down y ≤ up y + down x → leZ x y ≡ true
+is-leZ x y h = to-true (leZ x y) (parts-≤ℤ x y h .le)
+
+pub not-leZ : (x y : ℤ) → up y + down x < up x + down y → leZ x y ≡ false
+not-leZ x y h = to-false (leZ x y) (λ t. let k = ≤ℤ-parts x y (leZ-yes t) in omega arith)
+
+pub lt-not-le : (x y : ℤ) → leZ y x ≡ not (ltZ x y)
+lt-not-le x y = by (ltZ x y) refl
+  where
+    by : (b : Bool) → ltZ x y ≡ b → leZ y x ≡ not b
+    by true e = not-leZ y x (ltZ-true x y e)
+    by false e = is-leZ y x (ltZ-false x y e)
+
+-- two tests are one where each holds when the other does
+pub same-test : (a b : Bool) → (a ≡ true → b ≡ true) × (b ≡ true → a ≡ true) → a ≡ b
+same-test true true p = refl
+same-test true false p = sym (p .0 refl)
+same-test false true p = p .1 refl
+same-test false false p = refl
+
+-- not negative, as a cast to an unsigned type asks
+pub is-nonNeg : (z : ℤ) → down z ≤ up z → T (nonNeg z)
+is-nonNeg (pos n) h = tt
+is-nonNeg (negsuc n) h = let k : ⊥ = omega arith in absurd k
+
+-- all that `omega` reads and proves on ℤ: equality, order, ranges and tests
+pub ruleset zarith = (arith, order, sfits-parts, parts-sfits, ltZ-true, ltZ-false, leZ-true, leZ-false, is-ltZ, not-ltZ, is-leZ, not-leZ, is-nonNeg, ltb-true, ltb-false, leb-true, leb-false, lt-ltb, le-ltb, le-leb, lt-leb, eqb-true, eqb-false, eq-eqb, ne-eqb)
+
+-- ---- what the machine reads back from bits, as difference forms
+-- of the bits of a number that fits, the number
+abbrev pub back : {w : Width} {z : ℤ} → SFits w z → Difference z → Difference (toZ w (ofZ w z))
+back {w} {z} f d = record { hi = d .hi; lo = d .lo; is = subst (λ (y : ℤ). up y + d .lo ≡ d .hi + down y) (sym (toZ-ofZ f)) (d .is) }
+
+-- the same of a parameter: `read (c .fits .x)`
+abbrev pub read : {w : Width} {z : ℤ} → SFits w z → Difference (toZ w (ofZ w z))
+read {w} {z} f = back f (var z)
+
+-- the same of the signed result of a call: `got w64 (c .f .result) (c .f .ok)`
+abbrev pub got : (w : Width) (z : ℤ) → mag z < 2 ^ hbits w → Difference (toZ w (ofZ w z))
+got w z h = back (record { sfits = h }) (var z)
+
+-- an unsigned number in the lower half, cast to a signed type
+abbrev pub small : (w : Width) (n : ℕ) → n < 2 ^ hbits w → Difference (toZ w n)
+small w n h = record { hi = n; lo = 0; is = subst (λ (y : ℤ). up y + 0 ≡ n + down y) (sym (toZ-pos w h)) refl }
+
+-- ---- a test of two signed numbers that fit, as the code leaves it, on the numbers themselves
+module _ {w : Width} {x y : ℤ} (fx : SFits w x) (fy : SFits w y) {b : Bool} where
+  pub plain-lt : ltZ (toZ w (ofZ w x)) (toZ w (ofZ w y)) ≡ b → ltZ x y ≡ b
+  plain-lt e = simp (toZ-ofZ fx, toZ-ofZ fy) at e
+
+  pub plain-le : leZ (toZ w (ofZ w x)) (toZ w (ofZ w y)) ≡ b → leZ x y ≡ b
+  plain-le e = simp (toZ-ofZ fx, toZ-ofZ fy) at e
+
+  -- a test that is written the other way round than a clause has it
+  pub turned-lt : ltZ (toZ w (ofZ w x)) (toZ w (ofZ w y)) ≡ b → leZ y x ≡ not b
+  turned-lt e = lt-not-le x y ∙ ap not (plain-lt e)
+
+-- ---- equality of two signed numbers: the machine compares their bits
+module _ {w : Width} {x y : ℤ} (fx : SFits w x) (fy : SFits w y) where
+  pub eq-bits : ofZ w x ≡ ofZ w y → x ≡ y
+  eq-bits e = sym (toZ-ofZ fx) ∙ ap (toZ w) e ∙ toZ-ofZ fy
+
+  pub eqb-bits : eqb (ofZ w x) (ofZ w y) ≡ eqb (natAbs (x -ℤ y)) 0
+  eqb-bits = same-test _ _ (to, from)
+    where
+      to : eqb (ofZ w x) (ofZ w y) ≡ true → eqb (natAbs (x -ℤ y)) 0 ≡ true
+      to t = let e = eq-bits (eqb-true _ _ t) in eq-eqb (natAbs (x -ℤ y)) 0 (omega (arith, order, abs-is (var x ⊖ var y)))
+
+      from : eqb (natAbs (x -ℤ y)) 0 ≡ true → eqb (ofZ w x) (ofZ w y) ≡ true
+      from t =
+          let h = eqb-true (natAbs (x -ℤ y)) 0 t in
+          let e : x ≡ y = omega (arith, order, size (x -ℤ y), var x ⊖ var y) in
+          eq-eqb _ _ (ap (ofZ w) e)
+
+-- the signed result z of a call: `kept w64 (c .f .result) (c .f .ok)`
+pub kept : (w : Width) (z : ℤ) → mag z < 2 ^ hbits w → toZ w (ofZ w z) ≡ z
+kept w z h = toZ-ofZ (record { sfits = h })
+
+-- ---- an operation on two parameters: that it fits, as the machine asks it, and what it gives, from the range of the plain result
+module _ {w : Width} {x y : ℤ} (fx : SFits w x) (fy : SFits w y) where
+  pub add-fits : SFits w (x +ℤ y) → SFits w (toZ w (ofZ w x) +ℤ toZ w (ofZ w y))
+  add-fits f = simp (toZ-ofZ fx, toZ-ofZ fy) f
+
+  pub add-back : SFits w (x +ℤ y) → toZ w (ofZ w (toZ w (ofZ w x) +ℤ toZ w (ofZ w y))) ≡ x +ℤ y
+  add-back f = simp (toZ-ofZ fx, toZ-ofZ fy, toZ-ofZ f)
+
+  pub sub-fits : SFits w (x -ℤ y) → SFits w (toZ w (ofZ w x) -ℤ toZ w (ofZ w y))
+  sub-fits f = simp (toZ-ofZ fx, toZ-ofZ fy) f
+
+  pub sub-back : SFits w (x -ℤ y) → toZ w (ofZ w (toZ w (ofZ w x) -ℤ toZ w (ofZ w y))) ≡ x -ℤ y
+  sub-back f = simp (toZ-ofZ fx, toZ-ofZ fy, toZ-ofZ f)
+
+  pub mul-fits : SFits w (x *ℤ y) → SFits w (toZ w (ofZ w x) *ℤ toZ w (ofZ w y))
+  mul-fits f = simp (toZ-ofZ fx, toZ-ofZ fy) f
+
+  pub mul-back : SFits w (x *ℤ y) → toZ w (ofZ w (toZ w (ofZ w x) *ℤ toZ w (ofZ w y))) ≡ x *ℤ y
+  mul-back f = simp (toZ-ofZ fx, toZ-ofZ fy, toZ-ofZ f)
+
+  -- the difference of two ordered numbers, cast to an unsigned type as wide or wider: `gap-cast (f .x) (f .y) tt ..`
+  pub gap-cast : {w′ : Width} → T (ltb (hbits w) (bits w′)) → y ≤ℤ x → SFits w (x -ℤ y) → T (nonNeg (toZ w (ofZ w (toZ w (ofZ w x) -ℤ toZ w (ofZ w y))))) × Fits w′ (natAbs (toZ w (ofZ w (toZ w (ofZ w x) -ℤ toZ w (ofZ w y)))))
+  gap-cast t h f = rw (sub-back f) (is-nonNeg (x -ℤ y) (omega (arith, order, var x ⊖ var y)), fits-natAbs t f)

@@ -1,0 +1,1 @@
+// The laws of the integers that the crates above cite: all in specs/, no function.

@@ -1,0 +1,54 @@
+-- The laws of an offset's cell and of its part of it, for an axis that questions 3 to 5 let pass.
+use mathlib.Core.Bool.{true, _&&_}
+use mathlib.Core.Path.{_≡_, ap}
+use Prim.Native.Nat.{ℕ, _+_, _-_, _*_, _/_, _≤_, _<_, min}
+use native.Mathlib.Decide.{decLe}
+use native.Mathlib.Nat.{min-le-left, min-le-right, min-eq-left, min-eq-right, mul-le-mul-right, le-trans, div-mul-le-self, lt-div-mul-add}
+use native.Mathlib.Omega.{arith}
+use lib.IntN.{ℤ, pos, natAbs, _-ℤ_}
+use lib.Signed.{_≤ℤ_, leZ}
+use Rattle.integers.specs.Difference.{order, var, lit, _⊕_, _⊖_}
+use Rattle.integers.specs.Distance.{abs-is}
+use Rattle.integers.specs.Machine.{zarith}
+use Rattle.integers.specs.Tests.{and-left, and-right}
+use Rattle.rules.specs.declared.Axis.{Axis}
+use Rattle.rules.specs.Image.{farBound}
+use Rattle.rules.specs.Questions.{AxisPasses}
+use Rattle.rules.specs.Bilinear.{offset, cellOf, partOf}
+use Rattle.rules.specs.Lookup.{onAxis}
+
+-- An angle on the axis lies between its bounds.
+pub from-start : (a : Axis) (z : ℤ) → onAxis a z ≡ true → a .start ≤ℤ z
+unfolding onAxis
+from-start a z h = let t = and-left (leZ (a .start) z) (leZ z (farBound a)) h in omega zarith
+
+pub to-far : (a : Axis) (z : ℤ) → onAxis a z ≡ true → z ≤ℤ farBound a
+unfolding onAxis
+to-far a z h = let t = and-right (leZ (a .start) z) (leZ z (farBound a)) h in omega zarith
+
+-- Its offset is at most (count − 1) spacings.
+pub offset-most : (a : Axis) (z : ℤ) → onAxis a z ≡ true → offset a z ≤ (a .count - 1) * a .spacing
+offset-most a z h =
+    omega (arith, order, from-start a z h, to-far a z h, abs-is (var z ⊖ var (a .start)), var (a .start) ⊕ lit ((a .count - 1) * a .spacing))
+
+-- There are count − 1 cells.
+pub cell-most : (a : Axis) (x : ℕ) → cellOf a x ≤ a .count - 2
+unfolding cellOf
+cell-most a x = min-le-right (x / a .spacing) (a .count - 2)
+
+-- The cell starts at or before the offset.
+pub cell-start : (a : Axis) (x : ℕ) → cellOf a x * a .spacing ≤ x
+unfolding cellOf
+cell-start a x = le-trans (mul-le-mul-right (a .spacing) (min-le-left (x / a .spacing) (a .count - 2))) (div-mul-le-self x (a .spacing))
+
+-- The part is at most the spacing.
+pub part-most : {limit : ℕ} (a : Axis) (x : ℕ) → AxisPasses limit a → x ≤ (a .count - 1) * a .spacing → partOf a x ≤ a .spacing
+unfolding partOf cellOf
+part-most a x o h = by (decLe (x / a .spacing) (a .count - 2))
+  where
+    by : Dec (x / a .spacing ≤ a .count - 2) → x - min (x / a .spacing) (a .count - 2) * a .spacing ≤ a .spacing
+    by (yes l) = rw (min-eq-left l) (omega (arith, lt-div-mul-add {a = x} (o .spacing-least)))
+    by (no l) =
+        let m : min (x / a .spacing) (a .count - 2) ≡ a .count - 2 = min-eq-right (omega arith) in
+        let e : (a .count - 2 + 1) * a .spacing ≡ (a .count - 1) * a .spacing = ap (λ (n : ℕ). n * a .spacing) (omega (arith, o .count-least)) in
+        rw m (omega arith)

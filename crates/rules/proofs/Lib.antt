@@ -1,0 +1,3 @@
+-- Laws about the rules, for the crates above.
+pub mod Opening
+pub mod Cells

@@ -1,0 +1,69 @@
+-- Document 01, "Bilinear value", over any values by row and column.
+use Prim.Native.Nat.{ℕ, _+_, _-_, _*_, _/_, min}
+use mathlib.Core.List.{List, []}
+use lib.IntN.{ℤ, pos, natAbs, _+ℤ_, _-ℤ_, _*ℤ_}
+use lib.ListN.{getD}
+use Rattle.integers.specs.Rounding.{roundHalfUp}
+use Rattle.rules.specs.declared.Axis.{Axis}
+use Rattle.rules.specs.declared.Geometry.{Geometry}
+use Rattle.rules.specs.declared.Point.{Point}
+
+-- The distance of an angle from the axis's start, the south or west bound.
+abbrev pub offset : Axis → ℤ → ℕ
+offset a z = natAbs (z -ℤ a .start)
+
+-- The cell of an offset: whole spacings, rounded down; on the far bound the last cell.
+unfoldable pub cellOf : Axis → ℕ → ℕ
+cellOf a x = min (x / a .spacing) (a .count - 2)
+
+-- The offset's part of its cell: on the far bound the whole spacing.
+unfoldable pub partOf : Axis → ℕ → ℕ
+partOf a x = x - cellOf a x * a .spacing
+
+-- The four corner values of a cell.
+pub record Square : Type 0 where
+  pub southwest : ℤ
+  pub southeast : ℤ
+  pub northwest : ℤ
+  pub northeast : ℤ
+
+-- The same as two rows of two, the south row first, each from west to east: document 01's two by two square.
+abbrev pub squareOf : List (List ℤ) → Square
+squareOf s =
+    record {
+      southwest = getD (getD s 0 []) 0 (pos 0);
+      southeast = getD (getD s 0 []) 1 (pos 0);
+      northwest = getD (getD s 1 []) 0 (pos 0);
+      northeast = getD (getD s 1 []) 1 (pos 0);
+    }
+
+-- The corners of the cell of a row and a column.
+abbrev pub corners : (ℕ → ℕ → ℤ) → ℕ → ℕ → Square
+corners f row column =
+    record {
+      southwest = f row column;
+      southeast = f row (column + 1);
+      northwest = f (row + 1) column;
+      northeast = f (row + 1) (column + 1);
+    }
+
+-- The sum of corner times weight: u and v are the point's distance from the cell's south and west side, P and Q the latitude and longitude spacing.
+unfoldable pub weighted : Square → (u v P Q : ℕ) → ℤ
+weighted c u v P Q =
+    c .southwest *ℤ pos ((P - u) * (Q - v))
+    +ℤ c .southeast *ℤ pos ((P - u) * v)
+    +ℤ c .northwest *ℤ pos (u * (Q - v))
+    +ℤ c .northeast *ℤ pos (u * v)
+
+-- The value: that sum divided by P × Q, plus one half, rounded down.
+unfoldable pub bilinear : Square → (u v P Q : ℕ) → ℤ
+bilinear c u v P Q = roundHalfUp (weighted c u v P Q) (P * Q)
+
+-- The value at a point in the bounds.
+unfoldable pub valueAt : Geometry → (ℕ → ℕ → ℤ) → Point → ℤ
+valueAt g f p =
+    let x = offset (g .latitude) (p .latitude) in
+    let y = offset (g .longitude) (p .longitude) in
+    bilinear (corners f (cellOf (g .latitude) x) (cellOf (g .longitude) y))
+    (partOf (g .latitude) x) (partOf (g .longitude) y)
+    (g .latitude .spacing) (g .longitude .spacing)

@@ -1,0 +1,64 @@
+-- Document 01, "Grid check": question 9 over all nodes, the largest steps between neighbours, question 12.
+use mathlib.Core.Bool.{Bool, true, _&&_}
+use mathlib.Core.List.{List}
+use Prim.Native.Nat.{ℕ, zero, suc, _+_, _-_, _*_, max}
+use lib.Dec.{leb}
+use lib.IntN.{ℤ, natAbs, _-ℤ_}
+use Rattle.rules.specs.declared.Geometry.{Geometry}
+use Rattle.rules.specs.declared.Steps.{Steps}
+use Rattle.rules.specs.declared.Findings.{Findings}
+use Rattle.rules.specs.Answers.{Outcome, values, ask, andThen}
+use Rattle.rules.specs.Image.{Grid, gridOf, nodeAt, rows, columns}
+use Rattle.rules.specs.Questions.{opening}
+use Rattle.rules.specs.Lookup.{nodePasses}
+
+-- Whether t holds of 0, 1, … n − 1.
+unfoldable pub every : ℕ → (ℕ → Bool) → Bool
+every zero t = true
+every (suc n) t = every n t && t n
+
+-- The largest of f 0, f 1, … f (n − 1); 0 where n is 0.
+unfoldable pub largest : ℕ → (ℕ → ℕ) → ℕ
+largest zero f = 0
+largest (suc n) f = max (largest n f) (f n)
+
+-- Question 9 over all nodes.
+unfoldable pub allPass : Grid → Bool
+allPass g = every (rows (g .geometry)) (λ row. every (columns (g .geometry)) (λ column. nodePasses (nodeAt g row column)))
+
+-- The largest absolute step between neighbours: A in latitude, B in longitude.
+unfoldable pub stepNorth : Geometry → (ℕ → ℕ → ℤ) → ℕ
+stepNorth g f = largest (rows g - 1) (λ row. largest (columns g) (λ column. natAbs (f (row + 1) column -ℤ f row column)))
+
+unfoldable pub stepEast : Geometry → (ℕ → ℕ → ℤ) → ℕ
+stepEast g f = largest (rows g) (λ row. largest (columns g - 1) (λ column. natAbs (f row (column + 1) -ℤ f row column)))
+
+unfoldable pub stepsOf : Geometry → (ℕ → ℕ → ℤ) → Steps
+stepsOf g f = record { north = stepNorth g f; east = stepEast g f }
+
+-- 12. Is 100 × (A × Q + B × P) at most P × Q?
+unfoldable pub gentle : Geometry → Steps → Bool
+gentle g s =
+    let P = g .latitude .spacing in
+    let Q = g .longitude .spacing in
+    leb (100 * (s .north * Q + s .east * P)) (P * Q)
+
+-- The same for each of the three values.
+unfoldable pub question12 : Geometry → Findings → Bool
+question12 g f = gentle g (f .latitude) && (gentle g (f .longitude) && gentle g (f .height))
+
+-- A and B for latitude correction, longitude correction and height.
+unfoldable pub findingsOf : Grid → Findings
+findingsOf g =
+    record {
+      latitude = stepsOf (g .geometry) (g .latitude);
+      longitude = stepsOf (g .geometry) (g .longitude);
+      height = stepsOf (g .geometry) (g .height);
+    }
+
+unfoldable pub check : Grid → Outcome Findings
+check g = ask (allPass g) 9 (ask (question12 (g .geometry) (findingsOf g)) 12 (values (findingsOf g)))
+
+-- The grid check of an image: questions 1 to 6 first.
+unfoldable pub gridCheck : List ℕ → Outcome Findings
+gridCheck b = andThen (opening b) (λ g. check (gridOf b g))

@@ -1,0 +1,68 @@
+-- Document 01, "Questions in order": questions 1 to 6, which every call that takes an image puts first.
+use mathlib.Core.Bool.{Bool, _&&_}
+use mathlib.Core.List.{List}
+use Prim.Native.Nat.{ℕ, _≤_}
+use lib.Dec.{leb, eqb}
+use lib.IntN.{natAbs}
+use lib.ListN.{length}
+use Rattle.rules.specs.declared.Axis.{Axis}
+use Rattle.rules.specs.declared.Geometry.{Geometry}
+use Rattle.rules.specs.declared.Trailer.{Trailer}
+use Rattle.rules.specs.Units.{degrees, between, within}
+use Rattle.rules.specs.Answers.{Outcome, values, ask}
+use Rattle.rules.specs.Image.{trailerOf, farBound, rows, columns, backOf}
+
+-- 1. Is the length at least 40?
+abbrev pub question1 : ℕ → Bool
+question1 size = leb 40 size
+
+-- 2. Is the edition 1?
+abbrev pub question2 : Trailer → Bool
+question2 t = eqb (t .edition) 1
+
+-- 3. Are rows and columns each from 2 to 4,096?
+unfoldable pub question3 : Geometry → Bool
+question3 g = between 2 4096 (rows g) && between 2 4096 (columns g)
+
+-- 4. Is each spacing from 1 to 100,000,000?
+unfoldable pub question4 : Geometry → Bool
+question4 g = between 1 100000000 (g .latitude .spacing) && between 1 100000000 (g .longitude .spacing)
+
+-- 5. Are south and north bound from −90 to 90 degrees, west and east bound from −180 to 180?
+unfoldable pub boundsWithin : ℕ → Axis → Bool
+boundsWithin limit a = within limit (a .start) && within limit (farBound a)
+
+unfoldable pub question5 : Geometry → Bool
+question5 g = boundsWithin (degrees 90) (g .latitude) && boundsWithin (degrees 180) (g .longitude)
+
+-- 6. Is back equal to 12 × rows × columns + 40, and not above the length?
+unfoldable pub question6 : Trailer → ℕ → Bool
+question6 t size = eqb (t .back) (backOf (t .geometry)) && leb (t .back) size
+
+-- Questions 2 to 6, of a trailer and the image's length.
+unfoldable pub judge : Trailer → ℕ → Outcome Geometry
+judge t size =
+    ask (question2 t) 2
+    (ask (question3 (t .geometry)) 3
+    (ask (question4 (t .geometry)) 4
+    (ask (question5 (t .geometry)) 5
+    (ask (question6 t size) 6
+    (values (t .geometry))))))
+
+-- Questions 1 to 6, of an image's bytes: its geometry, or a number.
+unfoldable pub opening : List ℕ → Outcome Geometry
+opening b = ask (question1 (length b)) 1 (judge (trailerOf b) (length b))
+
+-- What questions 3 to 5 establish of an axis, and 1 to 6 of an image's length and geometry (proofs/Opening.antt, `opened`).
+pub record AxisPasses (limit : ℕ) (a : Axis) : Type 0 where
+  pub count-least : 2 ≤ a .count
+  pub count-most : a .count ≤ 4096
+  pub spacing-least : 1 ≤ a .spacing
+  pub spacing-most : a .spacing ≤ 100000000
+  pub start-within : natAbs (a .start) ≤ limit
+  pub far-within : natAbs (farBound a) ≤ limit
+
+pub record Open (size : ℕ) (g : Geometry) : Type 0 where
+  pub latitude : AxisPasses (degrees 90) (g .latitude)
+  pub longitude : AxisPasses (degrees 180) (g .longitude)
+  pub bytes : backOf g ≤ size

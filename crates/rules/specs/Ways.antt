@@ -1,0 +1,88 @@
+-- Document 01, "Way back and way out", with questions 7 to 11 in their order.
+use mathlib.Core.Bool.{Bool, cond, _&&_}
+use mathlib.Core.List.{List}
+use Prim.Native.Nat.{ℕ, zero, suc, _+_}
+use lib.IntN.{ℤ, _+ℤ_, _-ℤ_}
+use Rattle.rules.specs.declared.Point.{Point}
+use Rattle.rules.specs.declared.Correction.{Correction}
+use Rattle.rules.specs.declared.Position.{Position}
+use Rattle.rules.specs.Units.{degrees, within}
+use Rattle.rules.specs.Answers.{Outcome, values, number, ask, andThen}
+use Rattle.rules.specs.Image.{Grid, gridOf}
+use Rattle.rules.specs.Questions.{opening}
+use Rattle.rules.specs.Lookup.{inside, lookup}
+
+-- What a way asks of a grid: whether a point is in the bounds, and there its corrections and its quasi-geoid height, or a number.
+pub record Source : Type 0 where
+  pub inside : Point → Bool
+  pub corrections : Point → Outcome Correction
+  pub height : Point → Outcome ℤ
+
+-- 7. Are latitude and longitude within 90 and 180 degrees of zero, and the height within the way's limit?
+unfoldable pub question7 : ℕ → Point → ℤ → Bool
+question7 limit p h = within (degrees 90) (p .latitude) && (within (degrees 180) (p .longitude) && within limit h)
+
+-- A point plus, and a point minus, corrections.
+unfoldable pub plus : Point → Correction → Point
+plus q c = record { latitude = q .latitude +ℤ c .latitude; longitude = q .longitude +ℤ c .longitude }
+
+unfoldable pub minus : Point → Correction → Point
+minus p c = record { latitude = p .latitude -ℤ c .latitude; longitude = p .longitude -ℤ c .longitude }
+
+-- An answer from its point, height and count.
+abbrev pub position : Point → ℤ → ℕ → Position
+position p h n = record { latitude = p .latitude; longitude = p .longitude; height = h; count = n }
+
+-- Back, from Bessel point q and NAP height H: q plus the corrections at q, H plus the quasi-geoid height at q, count 1.
+unfoldable pub back : Source → Point → ℤ → Outcome Position
+back s q H =
+    ask (question7 110000000 q H) 7
+    (ask (s .inside q) 8
+    (andThen (s .corrections q) (λ c.
+    andThen (s .height q) (λ z.
+    values (position (plus q c) (H +ℤ z) 1)))))
+
+-- The stop rule: two angles that each differ by at most `stop`.
+unfoldable pub settled : ℕ → Point → Point → Bool
+settled stop p q = within stop (p .latitude -ℤ q .latitude) && within stop (p .longitude -ℤ q .longitude)
+
+-- The pn that the way out answers with, and its n.
+pub record Settled : Type 0 where
+  pub point : Point
+  pub count : ℕ
+
+-- The way out from pn = r on, with `left` evaluations left: p(n+1) is p minus the corrections at r. Question 9 is put to r's cell,
+-- then 10 to p(n+1), then the stop rule; 11 where no evaluation is left.
+unfoldable pub iterate : Source → (stop : ℕ) (p : Point) (left n : ℕ) (r : Point) → Outcome Settled
+iterate s stop p zero n r = number 11
+iterate s stop p (suc left) n r =
+    andThen (s .corrections r) (λ c.
+    ask (s .inside (minus p c)) 10
+    (cond (settled stop (minus p c) r)
+    (values (record { point = minus p c; count = n + 1 }))
+    (iterate s stop p left (n + 1) (minus p c))))
+
+-- Out, from ETRS89 point p and height h: the first pn that the stop rule takes, h minus the quasi-geoid height at pn, and n.
+unfoldable pub out : Source → Point → ℤ → Outcome Position
+out s p h =
+    ask (question7 100000000 p h) 7
+    (ask (s .inside p) 8
+    (andThen (iterate s 1 p 5 0 p) (λ e.
+    andThen (s .height (e .point)) (λ z.
+    values (position (e .point) (h -ℤ z) (e .count))))))
+
+-- A grid's answers: one lookup gives the corrections and the height.
+abbrev pub sourceOf : Grid → Source
+sourceOf g =
+    record {
+      inside = inside (g .geometry);
+      corrections = λ q. andThen (lookup g q) (λ n. values (record { latitude = n .latitude; longitude = n .longitude }));
+      height = λ q. andThen (lookup g q) (λ n. values (n .height));
+    }
+
+-- The two ways over an image: questions 1 to 6 first.
+unfoldable pub wayBack : List ℕ → Point → ℤ → Outcome Position
+wayBack b q H = andThen (opening b) (λ g. back (sourceOf (gridOf b g)) q H)
+
+unfoldable pub wayOut : List ℕ → Point → ℤ → Outcome Position
+wayOut b p h = andThen (opening b) (λ g. out (sourceOf (gridOf b g)) p h)
