@@ -1,9 +1,9 @@
--- The laws of an offset's cell and of its part of it, for an axis that questions 3 to 5 let pass.
+-- The laws of an offset's cell and of its part of it, for an axis that questions 3 and 4 let pass.
 use mathlib.Core.Bool.{true, _&&_}
 use mathlib.Core.Path.{_≡_, ap}
 use Prim.Native.Nat.{ℕ, _+_, _-_, _*_, _/_, _≤_, _<_, min}
 use native.Mathlib.Decide.{decLe}
-use native.Mathlib.Nat.{min-le-left, min-le-right, min-eq-left, min-eq-right, mul-le-mul-right, le-trans, div-mul-le-self, lt-div-mul-add}
+use native.Mathlib.Nat.{mul-le-mul, min-le-left, min-le-right, min-eq-left, min-eq-right, mul-le-mul-right, le-trans, div-mul-le-self, lt-div-mul-add}
 use native.Mathlib.Omega.{arith}
 use lib.IntN.{ℤ, pos, natAbs, _-ℤ_}
 use lib.Signed.{_≤ℤ_, leZ}
@@ -13,7 +13,7 @@ use Rattle.integers.specs.Machine.{zarith}
 use Rattle.integers.specs.Tests.{and-left, and-right}
 use Rattle.rules.specs.declared.Axis.{Axis}
 use Rattle.rules.specs.Image.{farBound}
-use Rattle.rules.specs.Questions.{AxisPasses}
+use Rattle.rules.specs.Questions.{Sized}
 use Rattle.rules.specs.Bilinear.{offset, cellOf, partOf}
 use Rattle.rules.specs.Lookup.{onAxis}
 
@@ -42,7 +42,7 @@ unfolding cellOf
 cell-start a x = le-trans (mul-le-mul-right (a .spacing) (min-le-left (x / a .spacing) (a .count - 2))) (div-mul-le-self x (a .spacing))
 
 -- The part is at most the spacing.
-pub part-most : {limit : ℕ} (a : Axis) (x : ℕ) → AxisPasses limit a → x ≤ (a .count - 1) * a .spacing → partOf a x ≤ a .spacing
+pub part-most : (a : Axis) (x : ℕ) → Sized a → x ≤ (a .count - 1) * a .spacing → partOf a x ≤ a .spacing
 unfolding partOf cellOf
 part-most a x o h = by (decLe (x / a .spacing) (a .count - 2))
   where
@@ -52,3 +52,7 @@ part-most a x o h = by (decLe (x / a .spacing) (a .count - 2))
         let m : min (x / a .spacing) (a .count - 2) ≡ a .count - 2 = min-eq-right (omega arith) in
         let e : (a .count - 2 + 1) * a .spacing ≡ (a .count - 1) * a .spacing = ap (λ (n : ℕ). n * a .spacing) (omega (arith, o .count-least)) in
         rw m (omega arith)
+
+-- The whole length of an axis.
+pub length-most : (a : Axis) → Sized a → (a .count - 1) * a .spacing ≤ 409500000000
+length-most a s = mul-le-mul {n₂ = 4095} (omega arith) (s .spacing-most)

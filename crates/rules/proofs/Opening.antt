@@ -3,6 +3,7 @@ use mathlib.Core.Bool.{Bool, true, false, _&&_}
 use mathlib.Core.List.{List}
 use mathlib.Core.Path.{_≡_, refl, subst}
 use Prim.Native.Nat.{ℕ, _+_, _*_, _≤_}
+use native.Mathlib.Nat.{mul-le-mul}
 use native.Mathlib.Omega.{arith}
 use lib.Dec.{leb, eqb}
 use lib.IntN.{natAbs}
@@ -15,7 +16,7 @@ use Rattle.rules.specs.declared.Trailer.{Trailer}
 use Rattle.rules.specs.Units.{degrees, between, within}
 use Rattle.rules.specs.Answers.{Outcome, values, number, ask}
 use Rattle.rules.specs.Image.{trailerOf, farBound, rows, columns, backOf}
-use Rattle.rules.specs.Questions.{question1, question2, question3, question4, boundsWithin, question5, question6, judge, opening, AxisPasses, Open}
+use Rattle.rules.specs.Questions.{question1, question2, question3, question4, boundsWithin, question5, question6, judge, opening, Sized, AxisPasses, Open}
 
 -- A question before values was answered yes.
 pub asked : {A : Type 0} (t : Bool) (n : ℕ) (next : Outcome A) (a : A) → ask t n next ≡ values a → (t ≡ true) × (next ≡ values a)
@@ -28,28 +29,54 @@ between-low low high n h = leb-true low n (and-left (leb low n) (leb n high) h)
 between-high : (low high n : ℕ) → between low high n ≡ true → n ≤ high
 between-high low high n h = leb-true n high (and-right (leb low n) (leb n high) h)
 
-axis : (limit : ℕ) (a : Axis) → between 2 4096 (a .count) ≡ true → between 1 100000000 (a .spacing) ≡ true → boundsWithin limit a ≡ true → AxisPasses limit a
-unfolding boundsWithin
-axis limit a h k l =
+axis : (a : Axis) → between 2 4096 (a .count) ≡ true → between 1 100000000 (a .spacing) ≡ true → Sized a
+axis a h k =
     record {
       count-least = between-low 2 4096 (a .count) h;
       count-most = between-high 2 4096 (a .count) h;
       spacing-least = between-low 1 100000000 (a .spacing) k;
       spacing-most = between-high 1 100000000 (a .spacing) k;
-      start-within = leb-true _ _ (and-left (within limit (a .start)) (within limit (farBound a)) l);
-      far-within = leb-true _ _ (and-right (within limit (a .start)) (within limit (farBound a)) l);
+    }
+
+-- After questions 3 and 4, both axes are sized.
+pub latitude-sized : (g : Geometry) → question3 g ≡ true → question4 g ≡ true → Sized (g .latitude)
+unfolding question3 question4
+latitude-sized g h k = axis (g .latitude) (and-left _ _ h) (and-left _ _ k)
+
+pub longitude-sized : (g : Geometry) → question3 g ≡ true → question4 g ≡ true → Sized (g .longitude)
+unfolding question3 question4
+longitude-sized g h k =
+    axis (g .longitude) (and-right (between 2 4096 (rows g)) _ h) (and-right (between 1 100000000 (g .latitude .spacing)) _ k)
+
+-- After question 3 there are at most 4,096 rows, and the nodes are at most 4,096 times 4,096.
+pub rows-most : (g : Geometry) → question3 g ≡ true → rows g ≤ 4096
+unfolding question3
+rows-most g h = between-high 2 4096 (rows g) (and-left _ _ h)
+
+pub nodes-most : (g : Geometry) → question3 g ≡ true → 12 * rows g * columns g ≤ 201326592
+unfolding question3
+nodes-most g h =
+    mul-le-mul {n₂ = 49152} {m₂ = 4096} (omega (arith, rows-most g h)) (between-high 2 4096 (columns g) (and-right (between 2 4096 (rows g)) _ h))
+
+bounds : (limit : ℕ) (a : Axis) → Sized a → boundsWithin limit a ≡ true → AxisPasses limit a
+unfolding boundsWithin
+bounds limit a s h =
+    record {
+      sized = s;
+      start-within = leb-true _ _ (and-left (within limit (a .start)) (within limit (farBound a)) h);
+      far-within = leb-true _ _ (and-right (within limit (a .start)) (within limit (farBound a)) h);
     }
 
 open-of : (t : Trailer) (size : ℕ) → question3 (t .geometry) ≡ true → question4 (t .geometry) ≡ true → question5 (t .geometry) ≡ true → question6 t size ≡ true → Open size (t .geometry)
-unfolding question3 question4 question5 question6
+unfolding question5 question6
 open-of t size h3 h4 h5 h6 =
     let g = t .geometry in
     let a = boundsWithin (degrees 90) (g .latitude) in
     let n = eqb-true (t .back) (backOf g) (and-left _ (leb (t .back) size) h6) in
     let m = leb-true (t .back) size (and-right (eqb (t .back) (backOf g)) (leb (t .back) size) h6) in
     record {
-      latitude = axis _ (g .latitude) (and-left _ _ h3) (and-left _ _ h4) (and-left a _ h5);
-      longitude = axis _ (g .longitude) (and-right (between 2 4096 (rows g)) _ h3) (and-right (between 1 100000000 (g .latitude .spacing)) _ h4) (and-right a _ h5);
+      latitude = bounds _ (g .latitude) (latitude-sized g h3 h4) (and-left a _ h5);
+      longitude = bounds _ (g .longitude) (longitude-sized g h3 h4) (and-right a _ h5);
       bytes = omega arith;
     }
 

@@ -53,12 +53,15 @@ judge t size =
 unfoldable pub opening : List ℕ → Outcome Geometry
 opening b = ask (question1 (length b)) 1 (judge (trailerOf b) (length b))
 
--- What questions 3 to 5 establish of an axis, and 1 to 6 of an image's length and geometry (proofs/Opening.antt, `opened`).
-pub record AxisPasses (limit : ℕ) (a : Axis) : Type 0 where
+-- What questions 3 and 4 establish of an axis, 3 to 5 of its bounds, and 1 to 6 of an image's length and geometry (proofs/Opening.antt, `opened`).
+pub record Sized (a : Axis) : Type 0 where
   pub count-least : 2 ≤ a .count
   pub count-most : a .count ≤ 4096
   pub spacing-least : 1 ≤ a .spacing
   pub spacing-most : a .spacing ≤ 100000000
+
+pub record AxisPasses (limit : ℕ) (a : Axis) : Type 0 where
+  pub sized : Sized a
   pub start-within : natAbs (a .start) ≤ limit
   pub far-within : natAbs (farBound a) ≤ limit
 

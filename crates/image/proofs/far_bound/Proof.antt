@@ -1,0 +1,39 @@
+-- `image::far_bound` meets its contract: an axis's start and length are small, so their sum fits. Assumes nothing.
+use Prim.Native.Nat.{_-_, _*_}
+use lib.IntN.{_+ℤ_}
+use mir.Val.{toZ, ofZ}
+use mir.Syntax.{w64}
+use native.Mathlib.Omega.{arith}
+use Rattle.integers.specs.Difference.{Difference, var, lit, _⊕_}
+use Rattle.integers.specs.Distance.{size}
+use Rattle.integers.specs.Machine.{zarith, got, small, back}
+use Rattle.rules.proofs.Cells.{length-most}
+use borrow.Author.Needs.{needs}
+use Rattle.image.proofs.far_bound.Statement.{statement}
+use Rattle.image.proofs.far_bound.Tie as tie
+
+-- the sum of the start and the length, as the machine reads them
+sum : (c : tie.After-struct-told) → let a = c .before .before .before .before .args .a in
+    Difference (toZ w64 (ofZ w64 (a .start)) +ℤ toZ w64 ((a .count - 1) * a .spacing))
+sum c =
+    let s = c .before .before .before .before in
+    let a = s .args .a in
+    got w64 (a .start) (c .struct-told .given .0 .1) ⊕ small w64 ((a .count - 1) * a .spacing) (omega (arith, length-most a (s .pre .1)))
+
+mul-result : tie.Need-mul-result
+mul-result c = omega (arith, length-most (c .before .before .args .a) (c .before .before .pre .1))
+
+cast-result : tie.Need-cast-result
+cast-result c = omega (zarith, length-most (c .before .before .args .a) (c .before .before .pre .1))
+
+add-result : tie.Need-add-result
+unfolding sum
+add-result c = let s = c .before .before .before .before in omega (zarith, sum c, size (s .args .a .start), length-most (s .args .a) (s .pre .1))
+
+returns : tie.Need-returns
+unfolding sum
+returns c = let a = c .before .before .before .before .args .a in
+    omega (zarith, back (add-result c) (sum c), var (a .start) ⊕ lit ((a .count - 1) * a .spacing))
+
+pub far-bound-spec : {M : Type 1} → statement M
+far-bound-spec = tie.close (tie.spec (λ c. search needs) mul-result cast-result add-result returns)

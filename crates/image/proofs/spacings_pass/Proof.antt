@@ -1,0 +1,18 @@
+-- `image::spacings_pass` meets its contract: each spacing is what `between_of` ensures. Assumes nothing.
+use mathlib.Core.Path.{sym, _∙_}
+use borrow.Author.Needs.{needs}
+use Rattle.rules.specs.Questions.{question4}
+use Rattle.image.proofs.spacings_pass.Statement.{statement}
+use Rattle.image.proofs.spacings_pass.Tie as tie
+
+returns : tie.Need-returns
+unfolding question4
+returns c = rw (sym (c .before .before .is-between .ensures) ∙ c .before .if1 .taken) (c .is-between2 .ensures)
+
+returns-2 : tie.Need-returns-2
+unfolding question4
+returns-2 c = rw (sym (c .before .is-between .ensures) ∙ c .if1 .left)
+
+pub spacings-pass-spec : {M : Type 1} → statement M
+spacings-pass-spec =
+    tie.close (tie.spec (λ c κs. search needs) (λ c κs. search needs) returns returns-2)

@@ -1,0 +1,24 @@
+-- `numbers::i64_at` meets its contract.
+use mathlib.Core.Path.{_∙_}
+use mir.Syntax.{w64}
+use Rattle.integers.specs.Machine.{kept}
+use borrow.Author.Needs.{needs}
+use Rattle.rules.specs.Image.{u64At, i64At}
+use Rattle.numbers.proofs.i64_at.Statement.{statement}
+use Rattle.numbers.proofs.i64_at.Tie as tie
+
+returns : tie.Need-returns
+unfolding i64At u64At
+returns c = kept w64 (c .signed64 .result) (c .signed64 .ok) ∙ c .signed64 .ensures ∙ rw (c .before .before .u32-at .ensures .0, c .before .u32-at2 .ensures .0)
+
+pub i64-at-spec : {M : Type 1} → statement M
+i64-at-spec =
+    tie.close
+    (tie.spec
+    (λ c κs. search needs)
+    (λ c. search needs)
+    (λ c κs. search needs)
+    (λ c. search needs)
+    (λ c. search needs)
+    (λ c κs. search needs)
+    returns)

@@ -1,0 +1,82 @@
+// Numbers as the machine holds them: the size of a signed number, limits, and the little-endian numbers of an image.
+ghost use mathlib.Core.Path.{_≡_};
+ghost use Prim.Native.Nat.{_+_, _≤_, _<_};
+ghost use lib.IntN.{natAbs};
+ghost use lib.ListN.{length};
+ghost use Rattle.rules.specs.Units.{between, within};
+ghost use Rattle.rules.specs.Image.{twosComplement, u32At, i32At, i64At};
+
+// The distance from zero.
+pub fn magnitude(z: i64) -> u64
+    ensures { λ r. ⌜ r ≡ natAbs z ⌝ }
+{
+    if z < 0 { (-1 - z) as u64 + 1 } else { z as u64 }
+}
+
+// At most `limit` from zero?
+pub fn is_within(z: i64, limit: u64) -> bool
+    ensures { λ r. ⌜ r ≡ within limit z ⌝ }
+{
+    magnitude(z) <= limit
+}
+
+// From `low` to `high`, both included?
+pub fn is_between(n: u64, low: u64, high: u64) -> bool
+    ensures { λ r. ⌜ r ≡ between low high n ⌝ }
+{
+    if low <= n { n <= high } else { false }
+}
+
+// A byte, widened.
+fn wide(x: u8) -> u64
+    ensures { λ r. ⌜ (r ≡ x) × (r < 256) ⌝ }
+{
+    x as u64
+}
+
+// The unsigned number of four bytes, the lowest first.
+pub fn u32_at(s: &[u8], at: usize) -> u64
+    requires { ⌜ at + 4 ≤ length (now s) ⌝ }
+    ensures { λ r. ⌜ (r ≡ u32At (now (s .entry)) at) × (r < 4294967296) ⌝ }
+{
+    wide(s[at]) + 256 * wide(s[at + 1]) + 65536 * wide(s[at + 2]) + 16777216 * wide(s[at + 3])
+}
+
+// 32 bits in two's complement.
+fn signed32(n: u64) -> i64
+    requires { ⌜ n < 4294967296 ⌝ }
+    ensures { λ r. ⌜ r ≡ twosComplement 2147483648 n ⌝ }
+{
+    if n < 2147483648 {
+        n as i64
+    } else {
+        n as i64 - 4294967296
+    }
+}
+
+// 64 bits in two's complement.
+fn signed64(n: u64) -> i64
+    ensures { λ r. ⌜ r ≡ twosComplement 9223372036854775808 n ⌝ }
+{
+    if n < 9223372036854775808 {
+        n as i64
+    } else {
+        -1 - (18446744073709551615 - n) as i64
+    }
+}
+
+// The signed number of four bytes.
+pub fn i32_at(s: &[u8], at: usize) -> i64
+    requires { ⌜ at + 4 ≤ length (now s) ⌝ }
+    ensures { λ r. ⌜ r ≡ i32At (now (s .entry)) at ⌝ }
+{
+    signed32(u32_at(s, at))
+}
+
+// The signed number of eight bytes.
+pub fn i64_at(s: &[u8], at: usize) -> i64
+    requires { ⌜ at + 8 ≤ length (now s) ⌝ }
+    ensures { λ r. ⌜ r ≡ i64At (now (s .entry)) at ⌝ }
+{
+    signed64(u32_at(s, at) + 4294967296 * u32_at(s, at + 4))
+}
