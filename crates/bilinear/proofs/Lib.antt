@@ -1,0 +1,4 @@
+-- Laws of the bilinear value, over natural numbers and over ℤ.
+pub mod Rounding
+pub mod Raising
+pub mod Laws

@@ -1,0 +1,77 @@
+-- The laws over ℕ behind the code: a mix lies between its values, and the division by P × Q done in two steps loses nothing.
+use mathlib.Core.Path.{_≡_, sym, ap, _∙_}
+use Prim.Native.Nat.{ℕ, suc, _+_, _-_, _*_, _/_, _%_, _≤_, _<_}
+use native.Mathlib.Nat.{div-add-mod', mod-lt, div-le-self, div-le-of-le-mul, div-lt-iff-lt-mul, le-div-iff-mul-le, mul-add-div-right, mul-pos, mul-le-mul, mul-le-mul-left, mul-le-mul-right, sub-add-cancel, le-of-lt, le-of-suc-le-suc}
+use native.Mathlib.Omega.{arith}
+use Rattle.bilinear.specs.Mean.{mix, quotient, mean, Rows}
+
+-- between the two values
+pub mix-le : {a b w whole : ℕ} (M : ℕ) → w ≤ whole → a ≤ M → b ≤ M → mix a b w whole ≤ whole * M
+mix-le {a} {b} {w} {whole} M h p q =
+    omega (arith, mul-le-mul-left (whole - w) p, mul-le-mul-left w q, ap (λ (x : ℕ). x * M) (sub-add-cancel h))
+
+pub mix-ge : {a b w whole : ℕ} (M : ℕ) → w ≤ whole → M ≤ a → M ≤ b → whole * M ≤ mix a b w whole
+mix-ge {a} {b} {w} {whole} M h p q =
+    omega (arith, mul-le-mul-left (whole - w) p, mul-le-mul-left w q, ap (λ (x : ℕ). x * M) (sub-add-cancel h))
+
+-- the rounded mean lies between the corner values
+module _ {u v P Q : ℕ} (h : u ≤ P) (k : v ≤ Q) (pq : 0 < P * Q) where
+  pub mean-le : {sw se nw ne : ℕ} (M : ℕ) → sw ≤ M → se ≤ M → nw ≤ M → ne ≤ M → mean sw se nw ne u v P Q ≤ M
+  unfolding quotient
+  mean-le {sw} {se} {nw} {ne} M a b c d =
+      let below : mix (mix sw se v Q) (mix nw ne v Q) u P ≤ P * (Q * M) = mix-le (Q * M) h (mix-le M k a b) (mix-le M k c d) in
+      le-of-suc-le-suc (div-lt-iff-lt-mul {k = 2 * (P * Q)} {y = suc M} (omega arith) .1 (omega arith))
+
+  pub mean-ge : {sw se nw ne : ℕ} (M : ℕ) → M ≤ sw → M ≤ se → M ≤ nw → M ≤ ne → M ≤ mean sw se nw ne u v P Q
+  unfolding quotient
+  mean-ge {sw} {se} {nw} {ne} M a b c d =
+      let above : P * (Q * M) ≤ mix (mix sw se v Q) (mix nw ne v Q) u P = mix-ge (Q * M) h (mix-ge M k a b) (mix-ge M k c d) in
+      le-div-iff-mul-le {k = 2 * (P * Q)} (omega arith) .1 (omega arith)
+
+-- what the numbers are at most in the division of two rows: t is the mix of the rows divided by q, and left that of what q leaves of them
+pub record Small (p q t left : ℕ) : Type 0 where
+  pub area-least : 0 < p * q
+  pub area-most : p * q ≤ 10000000000000000
+  pub t-most : t / p ≤ 2000000000000000
+  pub rest-most : t % p * q + left ≤ 2 * (p * q)
+
+module _ {s n u p q : ℕ} (r : Rows s n u p q) where
+  pub south-row : s / q ≤ 20000000
+  south-row = div-le-of-le-mul q (r .south-most)
+
+  pub north-row : n / q ≤ 20000000
+  north-row = div-le-of-le-mul q (r .north-most)
+
+  pub south-left : s % q < q
+  south-left = mod-lt s (r .width .least)
+
+  pub north-left : n % q < q
+  north-left = mod-lt n (r .width .least)
+
+  pub small : {t left : ℕ} → t ≡ mix (s / q) (n / q) u p → left ≡ mix (s % q) (n % q) u p → Small p q t left
+  small {t} {left} et el =
+      record {
+        area-least = mul-pos (r .height .least) (r .width .least);
+        area-most = mul-le-mul (r .height .most) (r .width .most);
+        t-most = omega (arith, div-le-self t p, mix-le 20000000 (r .north) south-row north-row);
+        rest-most =
+            omega
+            (arith, mul-le-mul-right q (le-of-lt (mod-lt t (r .height .least))), mix-le q (r .north) (le-of-lt south-left) (le-of-lt north-left));
+      }
+
+-- nothing is lost
+module _ (s n u p q t left : ℕ) (et : t ≡ mix (s / q) (n / q) u p) (el : left ≡ mix (s % q) (n % q) u p) where
+  abbrev rest : ℕ
+  rest = t % p * q + left
+
+  split : mix s n u p ≡ t / p * (p * q) + rest
+  split =
+      omega
+      (arith, ap (λ (x : ℕ). (p - u) * x) (div-add-mod' s q), ap (λ (x : ℕ). u * x) (div-add-mod' n q), ap (λ (x : ℕ). x * q) (div-add-mod' t p ∙ et))
+
+  pub quotient-is : 0 < p * q → t / p + (2 * rest + p * q) / (2 * (p * q)) ≡ quotient s n u p q
+  unfolding quotient
+  quotient-is h =
+      sym
+      (ap (λ (x : ℕ). x / (2 * (p * q))) {x = 2 * mix s n u p + p * q} {y = t / p * (2 * (p * q)) + (2 * rest + p * q)} (omega (arith, split))
+      ∙ mul-add-div-right (omega arith) (t / p) (2 * rest + p * q))

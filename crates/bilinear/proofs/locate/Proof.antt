@@ -1,0 +1,28 @@
+-- `bilinear::locate` meets its contract: the cell starts at or before the offset. Assumes nothing.
+use mathlib.Core.Path.{ap}
+use Prim.Native.Nat.{ℕ, _-_, _*_, _≤_}
+use native.Mathlib.Omega.{arith}
+use Rattle.rules.specs.Bilinear.{cellOf, partOf}
+use Rattle.rules.proofs.Cells.{cell-start}
+use borrow.Author.Needs.{needs}
+use Rattle.bilinear.proofs.locate.Statement.{statement}
+use Rattle.bilinear.proofs.locate.Tie as tie
+
+start : (c : tie.After-struct-known3) → let s = c .before .before .before .before .args in c .before .smaller .result * s .a .spacing ≤ s .x
+unfolding cellOf
+start c = let s = c .before .before .before .before .args in rw (c .before .smaller .ensures) (cell-start (s .a) (s .x))
+
+mul-part : tie.Need-mul-part
+mul-part c = omega (arith, start c, c .before .before .before .before .fits .x)
+
+sub-part : tie.Need-sub-part
+sub-part c = start c
+
+returns : tie.Need-returns
+unfolding cellOf partOf
+returns c = let s = c .before .before .before .before .args in
+    (c .before .smaller .ensures, ap (λ (n : ℕ). s .x - n * s .a .spacing) (c .before .smaller .ensures))
+
+pub locate-spec : {M : Type 1} → statement M
+locate-spec =
+    tie.close (tie.spec (λ c. search needs) (λ c. search needs) (λ c κs. search needs) mul-part sub-part returns)

@@ -1,0 +1,90 @@
+// The bilinear value of document 01, exact in 64 bits, and the cell of a point along an axis.
+use rules::Axis;
+ghost use mathlib.Core.Path.{_≡_};
+ghost use Prim.Native.Nat.{_≤_, min};
+ghost use lib.IntN.{pos, natAbs, _+ℤ_};
+ghost use Rattle.rules.specs.Questions.{Sized};
+ghost use Rattle.rules.specs.Bilinear.{cellOf, partOf, squareOf, bilinear};
+ghost use Rattle.bilinear.specs.Mean.{CornersWithin, InCell, mix, quotient, mean, Mixable, Rows, Below};
+
+// A cell's index along one axis, and a point's part of the cell.
+pub struct Place {
+    pub cell: u64,
+    pub part: u64,
+}
+
+// The cell of an offset from an axis's start. On the far bound the last cell is used, with the whole spacing as part.
+pub fn locate(a: Axis, x: u64) -> Place
+    requires { ⌜ Sized a ⌝ }
+    ensures { λ r. ⌜ (r .cell ≡ cellOf a x) × (r .part ≡ partOf a x) ⌝ }
+{
+    let cell = smaller(x / a.spacing, a.count - 2);
+    let part = x - cell * a.spacing;
+    Place { cell, part }
+}
+
+fn smaller(a: u64, b: u64) -> u64
+    ensures { λ r. ⌜ r ≡ min a b ⌝ }
+{
+    if a < b { a } else { b }
+}
+
+// The bilinear value of four corner values, south row first, at u from the south side and v from the west side of a cell of p by q.
+// The corners are raised so that none is negative, which the mean undergoes too.
+pub fn weigh(corners: [[i64; 2]; 2], u: u64, v: u64, p: u64, q: u64) -> i64
+    requires { ⌜ CornersWithin 10000000 (squareOf corners) × InCell u v p q ⌝ }
+    ensures { λ r. ⌜ r ≡ bilinear (squareOf corners) u v p q ⌝ }
+{
+    let sw = raised(corners[0][0]);
+    let se = raised(corners[0][1]);
+    let nw = raised(corners[1][0]);
+    let ne = raised(corners[1][1]);
+    lowered(rounded_mean(sw, se, nw, ne, u, v, p, q))
+}
+
+// x raised by 10,000,000, which makes it a natural number.
+fn raised(x: i64) -> u64
+    requires { ⌜ natAbs x ≤ 10000000 ⌝ }
+    ensures { λ r. ⌜ (pos r ≡ x +ℤ pos 10000000) × (r ≤ 20000000) ⌝ }
+{
+    (x + 10_000_000) as u64
+}
+
+// And lowered again.
+fn lowered(n: u64) -> i64
+    requires { ⌜ n ≤ 20000000 ⌝ }
+    ensures { λ r. ⌜ pos n ≡ r +ℤ pos 10000000 ⌝ }
+{
+    n as i64 - 10_000_000
+}
+
+// The weighted mean of four natural corner values, rounded: the two rows are mixed, then the mixes divided.
+fn rounded_mean(sw: u64, se: u64, nw: u64, ne: u64, u: u64, v: u64, p: u64, q: u64) -> u64
+    requires { ⌜ Below 20000000 sw se nw ne × InCell u v p q ⌝ }
+    ensures { λ r. ⌜ r ≡ mean sw se nw ne u v p q ⌝ }
+{
+    let south = blend(sw, se, v, q);
+    let north = blend(nw, ne, v, q);
+    divided(south, north, u, p, q)
+}
+
+// a and b weighted by the parts whole - w and w.
+fn blend(a: u64, b: u64, w: u64, whole: u64) -> u64
+    requires { ⌜ Mixable a b w whole ⌝ }
+    ensures { λ r. ⌜ r ≡ mix a b w whole ⌝ }
+{
+    (whole - w) * a + w * b
+}
+
+// The mix of two rows divided by p * q, plus one half, rounded down. The mix itself does not fit 64 bits, so each row is divided by q first,
+// then the mix of those quotients by p; rest is what both divisions left.
+fn divided(s: u64, n: u64, u: u64, p: u64, q: u64) -> u64
+    requires { ⌜ Rows s n u p q ⌝ }
+    ensures { λ r. ⌜ r ≡ quotient s n u p q ⌝ }
+{
+    let t = blend(s / q, n / q, u, p);
+    let left = blend(s % q, n % q, u, p);
+    let rest = t % p * q + left;
+    let area = p * q;
+    t / p + (2 * rest + area) / (2 * area)
+}

@@ -1,0 +1,2 @@
+-- Laws of the nodes' places in an image.
+pub mod Parts

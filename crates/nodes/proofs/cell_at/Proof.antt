@@ -1,0 +1,23 @@
+-- `nodes::cell_at` meets its contract: each corner is what `node_at` ensures. Assumes nothing.
+use borrow.Author.Needs.{needs}
+use Rattle.nodes.specs.Cell.{cellAt}
+use Rattle.nodes.proofs.cell_at.Statement.{statement}
+use Rattle.nodes.proofs.cell_at.Tie as tie
+
+returns : tie.Need-returns
+unfolding cellAt
+returns c = cc
+
+pub cell-at-spec : {M : Type 1} → statement M
+cell-at-spec =
+    tie.close
+    (tie.spec
+    (λ c κs. search needs)
+    (λ c. search needs)
+    (λ c κs. search needs)
+    (λ c. search needs)
+    (λ c κs. search needs)
+    (λ c. search needs)
+    (λ c. search needs)
+    (λ c κs. search needs)
+    returns)
