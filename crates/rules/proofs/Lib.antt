@@ -1,3 +1,4 @@
 -- Laws about the rules, for the crates above.
 pub mod Opening
 pub mod Cells
+pub mod Limits

@@ -1,0 +1,85 @@
+-- The lookup in terms of a cell's corners, the limits that question 9 establishes of them, and the place of a point in its cell.
+use mathlib.Core.Bool.{true, _&&_}
+use mathlib.Core.Path.{_≡_, refl}
+use Prim.Native.Nat.{ℕ, _+_, _≤_, _<_}
+use native.Mathlib.Omega.{arith}
+use lib.IntN.{ℤ, natAbs}
+use Rattle.integers.specs.Tests.{and-left, and-right}
+use Rattle.rules.specs.declared.Axis.{Axis}
+use Rattle.rules.specs.declared.Geometry.{Geometry}
+use Rattle.rules.specs.declared.Point.{Point}
+use Rattle.rules.specs.declared.Node.{Node}
+use Rattle.rules.specs.Answers.{values, ask}
+use Rattle.rules.specs.Image.{Grid}
+use Rattle.rules.specs.Questions.{Sized}
+use Rattle.rules.specs.Bilinear.{offset, cellOf, partOf, squareOf, bilinear, valueAt}
+use Rattle.rules.specs.Lookup.{onAxis, inside, nodePasses, cellPasses, question9, lookup}
+use Rattle.rules.proofs.Cells.{offset-most, cell-most, part-most}
+use Rattle.rules.proofs.Limits.{NodeWithin, node-within}
+use Rattle.bilinear.specs.Mean.{CornersWithin, InCell}
+use Rattle.nodes.specs.Cell.{cellAt, allPass, square}
+use Rattle.nodes.specs.declared.Cell.{Cell}
+use Rattle.lookup.specs.Values.{valuesIn}
+
+-- The cell and the part of an angle.
+abbrev pub cellFor : Axis → ℤ → ℕ
+cellFor a z = cellOf a (offset a z)
+
+abbrev pub partFor : Axis → ℤ → ℕ
+partFor a z = partOf a (offset a z)
+
+-- The lookup puts question 9 to the corners of the point's cell, and weighs their values.
+pub lookup-is : (g : Grid) (p : Point) → let a = g .geometry .latitude in let o = g .geometry .longitude in
+    let c = cellAt g (cellFor a (p .latitude)) (cellFor o (p .longitude)) in
+    lookup g p ≡ ask (allPass c) 9 (values (valuesIn c (partFor a (p .latitude)) (partFor o (p .longitude)) (a .spacing) (o .spacing)))
+unfolding lookup question9 cellPasses allPass cellAt valueAt valuesIn
+lookup-is g p = refl
+
+-- A point in the bounds is on both axes.
+pub on-latitude : (g : Geometry) (p : Point) → inside g p ≡ true → onAxis (g .latitude) (p .latitude) ≡ true
+unfolding inside
+on-latitude g p h = and-left _ _ h
+
+pub on-longitude : (g : Geometry) (p : Point) → inside g p ≡ true → onAxis (g .longitude) (p .longitude) ≡ true
+unfolding inside
+on-longitude g p h = and-right (onAxis (g .latitude) (p .latitude)) _ h
+
+-- Its cell has a next row or column.
+pub cell-inside : (a : Axis) (z : ℤ) → Sized a → cellFor a z + 1 < a .count
+cell-inside a z s = omega (arith, cell-most a (offset a z))
+
+-- Its part of the cell is at most the spacing.
+pub in-cell : (a o : Axis) (y x : ℤ) → Sized a → Sized o → onAxis a y ≡ true → onAxis o x ≡ true → InCell (partFor a y) (partFor o x) (a .spacing) (o .spacing)
+in-cell a o y x s t h k =
+    record {
+      north = part-most a (offset a y) s (offset-most a y h);
+      east = part-most o (offset o x) t (offset-most o x k);
+      height = omega arith;
+      width = omega arith;
+    }
+
+-- Corners that pass question 9 are within the weighting function's limit, whichever of the three values is weighed.
+pub corners-within : (f : Node → ℤ) → ((n : Node) → NodeWithin n → natAbs (f n) ≤ 10000000) → (c : Cell) → allPass c ≡ true → CornersWithin 10000000 (squareOf (square f c))
+unfolding allPass
+corners-within f small c h =
+    let sw = nodePasses (c .southwest) in
+    let se = nodePasses (c .southeast) in
+    let nw = nodePasses (c .northwest) in
+    let ne = nodePasses (c .northeast) in
+    let south = and-left (sw && se) (nw && ne) h in
+    let north = and-right (sw && se) (nw && ne) h in
+    record {
+      southwest = small _ (node-within (c .southwest) (and-left sw se south));
+      southeast = small _ (node-within (c .southeast) (and-right sw se south));
+      northwest = small _ (node-within (c .northwest) (and-left nw ne north));
+      northeast = small _ (node-within (c .northeast) (and-right nw ne north));
+    }
+
+-- The three values, each by its own equation.
+pub values-are : (c : Cell) (u v P Q : ℕ) {x y z : ℤ}
+    → x ≡ bilinear (squareOf (square (λ n. n .latitude) c)) u v P Q
+    → y ≡ bilinear (squareOf (square (λ n. n .longitude) c)) u v P Q
+    → z ≡ bilinear (squareOf (square (λ n. n .height) c)) u v P Q
+    → _≡_ {A = Node} (record { latitude = x; longitude = y; height = z }) (valuesIn c u v P Q)
+unfolding valuesIn
+values-are c u v P Q p q r = λ i. record { latitude = p i; longitude = q i; height = r i }

@@ -1,0 +1,2 @@
+-- Laws of the lookup that its functions cite.
+pub mod Found

@@ -1,0 +1,28 @@
+-- `lookup::on_axis` meets its contract: both tests are on the numbers themselves, read back from their bits. Assumes nothing.
+use mir.Syntax.{w64}
+use borrow.Author.Needs.{sfits-of}
+use Rattle.integers.specs.Machine.{kept, plain-le}
+use Rattle.rules.specs.Lookup.{onAxis}
+use borrow.Author.Needs.{needs}
+use Rattle.lookup.proofs.on_axis.Statement.{statement}
+use Rattle.lookup.proofs.on_axis.Tie as tie
+
+returns : tie.Need-returns
+unfolding onAxis
+returns c = let t = c .before .before in
+    let s = t .before .before in
+    rw (
+      kept w64 (s .args .z) (s .fits .z .sfits),
+      kept w64 (c .far-bound .result) (c .far-bound .ok),
+      c .far-bound .ensures,
+      plain-le {x = s .args .a .start} (sfits-of (t .struct-told .given .0 .1)) (s .fits .z) (c .before .if1 .taken),
+    )
+
+returns-2 : tie.Need-returns-2
+unfolding onAxis
+returns-2 c = let t = c .before in
+    let s = t .before .before in
+    rw (plain-le {x = s .args .a .start} (sfits-of (t .struct-told .given .0 .1)) (s .fits .z) (c .if1 .left))
+
+pub on-axis-spec : {M : Type 1} → statement M
+on-axis-spec = tie.close (tie.spec (λ c κs. search needs) returns returns-2)

@@ -1,0 +1,99 @@
+// The lookup at a point of an opened image: the bounds test, the point's cell, question 9 for it, and the three values.
+use bilinear::Place;
+use bilinear::locate;
+use bilinear::weigh;
+use image::far_bound;
+use nodes::Cell;
+use nodes::cell_at;
+use nodes::cell_passes;
+use nodes::height_square;
+use nodes::latitude_square;
+use nodes::longitude_square;
+use rules::Axis;
+use rules::Geometry;
+use rules::Lookup;
+use rules::Node;
+use rules::Point;
+use rules::Refusal;
+ghost use mathlib.Core.Path.{_≡_};
+ghost use mathlib.Core.Bool.{true};
+ghost use Prim.Native.Nat.{_≤_};
+ghost use lib.IntN.{natAbs};
+ghost use Rattle.rules.specs.Answers.{values, lookupOf};
+ghost use Rattle.rules.specs.Image.{gridOf};
+ghost use Rattle.rules.specs.Questions.{Sized, AxisPasses, opening};
+ghost use Rattle.rules.specs.Bilinear.{offset, cellOf, partOf};
+ghost use Rattle.rules.specs.Lookup as lookup;
+ghost use Rattle.bilinear.specs.Mean.{InCell};
+ghost use Rattle.nodes.specs.Cell.{allPass};
+ghost use Rattle.lookup.specs.Values.{valuesIn};
+
+// Is the point in the bounds, all four included?
+pub fn in_bounds(g: Geometry, p: Point) -> bool
+    requires { ⌜ AxisPasses 90000000000 (g .latitude) × AxisPasses 180000000000 (g .longitude) ⌝ }
+    ensures { λ r. ⌜ r ≡ lookup.inside g p ⌝ }
+{
+    let latitude = g.latitude;
+    let longitude = g.longitude;
+    if on_axis(latitude, p.latitude) {
+        on_axis(longitude, p.longitude)
+    } else {
+        false
+    }
+}
+
+fn on_axis(a: Axis, z: i64) -> bool
+    requires { ⌜ AxisPasses 180000000000 a ⌝ }
+    ensures { λ r. ⌜ r ≡ lookup.onAxis a z ⌝ }
+{
+    if a.start <= z {
+        z <= far_bound(a)
+    } else {
+        false
+    }
+}
+
+// The lookup at a point in the bounds.
+pub fn look_up(image: &[u8], g: Geometry, p: Point) -> Lookup
+    requires { ⌜ (opening (now image) ≡ values g) × (lookup.inside g p ≡ true) ⌝ }
+    ensures { λ r. ⌜ lookupOf r ≡ lookup.lookup (gridOf (now (image .entry)) g) p ⌝ }
+{
+    let latitude = g.latitude;
+    let longitude = g.longitude;
+    let north = place_on(latitude, p.latitude);
+    let east = place_on(longitude, p.longitude);
+    let c = cell_at(image, g, north.cell, east.cell);
+    if !cell_passes(c) {
+        return Lookup::Refused(Refusal::NodeLimits);
+    }
+    Lookup::Found(values_in(
+        c,
+        north.part,
+        east.part,
+        latitude.spacing,
+        longitude.spacing,
+    ))
+}
+
+// The cell of an angle on an axis, and the angle's part of it.
+fn place_on(a: Axis, z: i64) -> Place
+    requires { ⌜ AxisPasses 180000000000 a × (lookup.onAxis a z ≡ true) ⌝ }
+    ensures { λ r. ⌜ (r .cell ≡ cellOf a (offset a z)) × (r .part ≡ partOf a (offset a z)) ⌝ }
+{
+    locate(a, (z - a.start) as u64)
+}
+
+// The three values at u from the south side and v from the west side of a cell of p by q.
+fn values_in(c: Cell, u: u64, v: u64, p: u64, q: u64) -> Node
+    requires { ⌜ (allPass c ≡ true) × InCell u v p q ⌝ }
+    ensures { λ r. ⌜ r ≡ valuesIn c u v p q ⌝ }
+{
+    let latitude = weigh(latitude_square(c), u, v, p, q);
+    let longitude = weigh(longitude_square(c), u, v, p, q);
+    let height = weigh(height_square(c), u, v, p, q);
+    Node {
+        latitude,
+        longitude,
+        height,
+    }
+}
