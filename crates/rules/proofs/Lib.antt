@@ -1,4 +1,5 @@
 -- Laws about the rules, for the crates above.
+pub mod Order
 pub mod Opening
 pub mod Cells
 pub mod Limits

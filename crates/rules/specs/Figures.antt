@@ -18,7 +18,7 @@ use Rattle.rules.specs.Check.{every, largest, allPass, stepNorth, stepEa
 use Rattle.rules.specs.Notation.{total, readable, magnitudeRead, readNotation, totalWritten, split, writeNotation}
 
 -- The trailer of G: south 52,000,000,000, west 5,000,000,000, spacings 1,000, 3 rows, 3 columns, back 148, edition 1.
-abbrev trailerG : List ℕ
+abbrev pub trailerG : List ℕ
 trailerG =
     0 ∷ 8 ∷ 113 ∷ 27 ∷ 12 ∷ 0 ∷ 0 ∷ 0 ∷ 0 ∷ 242 ∷ 5 ∷ 42 ∷ 1 ∷ 0 ∷ 0 ∷ 0 ∷
     232 ∷ 3 ∷ 0 ∷ 0 ∷ 232 ∷ 3 ∷ 0 ∷ 0 ∷ 3 ∷ 0 ∷ 0 ∷ 0 ∷ 3 ∷ 0 ∷ 0 ∷ 0 ∷ 148 ∷ 0 ∷ 0 ∷ 0 ∷ 1 ∷ 0 ∷ 0 ∷ 0 ∷ []
@@ -37,15 +37,15 @@ gridG =
     108 ∷ 0 ∷ 0 ∷ 0 ∷ 206 ∷ 255 ∷ 255 ∷ 255 ∷ 186 ∷ 143 ∷ 6 ∷ 0 ∷ trailerG
 
 -- The four bytes of an i32.
-abbrev word : ℕ → List ℕ
+abbrev pub word : ℕ → List ℕ
 word n = n % 256 ∷ n / 256 % 256 ∷ n / 65536 % 256 ∷ n / 16777216 ∷ []
 
-abbrev i32Bytes : ℤ → List ℕ
+abbrev pub i32Bytes : ℤ → List ℕ
 i32Bytes (pos n) = word n
 i32Bytes (negsuc n) = word (4294967295 - n)
 
 -- The bytes of G with other corrections, by row and column.
-abbrev variant : (latitude longitude : ℕ → ℕ → ℤ) → List ℕ
+abbrev pub variant : (latitude longitude : ℕ → ℕ → ℤ) → List ℕ
 variant latitude longitude = row 0 (row 1 (row 2 trailerG))
   where
     node : ℕ → ℕ → List ℕ → List ℕ
@@ -55,7 +55,7 @@ variant latitude longitude = row 0 (row 1 (row 2 trailerG))
     row i rest = node i 0 (node i 1 (node i 2 rest))
 
 -- A point by its offsets from the south-west corner of G.
-abbrev at : ℤ → ℤ → Point
+abbrev pub at : ℤ → ℤ → Point
 at x y = record { latitude = pos 52000000000 +ℤ x; longitude = pos 5000000000 +ℤ y }
 
 -- The lookup at a point of an image: questions 1 to 6 first.
