@@ -3,7 +3,7 @@ use mathlib.Core.Bool.{true, _&&_}
 use mathlib.Core.Path.{_≡_, ap}
 use Prim.Native.Nat.{ℕ, _+_, _-_, _*_, _/_, _≤_, _<_, min}
 use native.Mathlib.Decide.{decLe}
-use native.Mathlib.Nat.{min-le-left, min-le-right, min-eq-left, min-eq-right, mul-le-mul-right, le-trans, div-mul-le-self, lt-div-mul-add}
+use native.Mathlib.Nat.{min-le-left, min-le-right, min-eq-left, min-eq-right, le-min, mul-le-mul-right, le-trans, div-mul-le-self, le-div-iff-mul-le, lt-div-mul-add}
 use native.Mathlib.Omega.{arith}
 use lib.IntN.{ℤ, pos, natAbs, _-ℤ_}
 use lib.Signed.{_≤ℤ_, leZ}
@@ -40,6 +40,11 @@ cell-most a x = min-le-right (x / a .spacing) (a .count - 2)
 pub cell-start : (a : Axis) (x : ℕ) → cellOf a x * a .spacing ≤ x
 unfolding cellOf
 cell-start a x = le-trans (mul-le-mul-right (a .spacing) (min-le-left (x / a .spacing) (a .count - 2))) (div-mul-le-self x (a .spacing))
+
+-- A larger offset lies in the same cell or in a later one.
+pub cell-order : {limit : ℕ} (a : Axis) (x y : ℕ) → AxisPasses limit a → x ≤ y → cellOf a x ≤ cellOf a y
+unfolding cellOf
+cell-order a x y o h = le-min (le-div-iff-mul-le (o .spacing-least) .1 (le-trans (cell-start a x) h)) (cell-most a x)
 
 -- The part is at most the spacing.
 pub part-most : {limit : ℕ} (a : Axis) (x : ℕ) → AxisPasses limit a → x ≤ (a .count - 1) * a .spacing → partOf a x ≤ a .spacing

@@ -1,0 +1,103 @@
+-- The bilinear value over any values by row and column: it is a line over lines, so it is within the nodes' limit, and the steps
+-- between neighbours bound its change.
+use mathlib.Core.Bool.{true}
+use mathlib.Core.Path.{_≡_, ap}
+use Prim.Native.Nat.{ℕ, _+_, _*_, _-_, _≤_, _<_, _/_}
+use native.Mathlib.Nat.{mul-le-mul, mul-le-mul-left, mul-le-mul-right}
+use native.Mathlib.Omega.{arith}
+use lib.IntN.{ℤ, pos, natAbs, _+ℤ_, _*ℤ_}
+use Rattle.integers.specs.Difference.{up, down, order, var, lit, _⊕_, _⊗_}
+use Rattle.integers.specs.Distance.{Near, near-mono, abs-is, size}
+use Rattle.integers.specs.Rounding.{roundHalfUp, round-close, round-bound}
+use Rattle.integers.specs.Tests.{and-left, and-right}
+use Rattle.rules.specs.declared.Axis.{Axis}
+use Rattle.rules.specs.declared.Geometry.{Geometry}
+use Rattle.rules.specs.declared.Point.{Point}
+use Rattle.rules.specs.Image.{rows, columns}
+use Rattle.rules.specs.Questions.{AxisPasses, Open}
+use Rattle.rules.specs.Bilinear.{weighted, bilinear, valueAt}
+use Rattle.rules.specs.Lookup.{onAxis, inside}
+use Rattle.returning.specs.Line.{mix, mix-parts, line, line-near, line-limit, line-change}
+use Rattle.returning.specs.Points.{Close}
+
+-- ---- the sum of corner times weight is a mix of mixes
+times-mix : (a b : ℤ) (s t v : ℕ) → up (mix a b t v) * s + down a * (s * t) + down b * (s * v) ≡ down (mix a b t v) * s + up a * (s * t) + up b * (s * v)
+times-mix a b s t v =
+    let e : (up (mix a b t v) + down a * t + down b * v) * s ≡ (down (mix a b t v) + up a * t + up b * v) * s = ap (λ (n : ℕ). n * s) (mix-parts a b t v) in
+    omega arith
+
+nested : (a b c d : ℤ) (s u t v : ℕ) → a *ℤ pos (s * t) +ℤ b *ℤ pos (s * v) +ℤ c *ℤ pos (u * t) +ℤ d *ℤ pos (u * v) ≡ mix (mix a b t v) (mix c d t v) s u
+nested a b c d s u t v =
+    omega (
+      arith,
+      order,
+      var a ⊗ lit (s * t) ⊕ var b ⊗ lit (s * v) ⊕ var c ⊗ lit (u * t) ⊕ var d ⊗ lit (u * v),
+      mix-parts (mix a b t v) (mix c d t v) s u,
+      times-mix a b s t v,
+      times-mix c d u t v,
+    )
+
+-- P × Q times the exact value at a point.
+unfoldable pub surface : Geometry → (ℕ → ℕ → ℤ) → Point → ℤ
+surface g f p = line (g .latitude) (λ row. line (g .longitude) (f row) (p .longitude)) (p .latitude)
+
+pub value-is : (g : Geometry) (f : ℕ → ℕ → ℤ) (p : Point) → valueAt g f p ≡ roundHalfUp (surface g f p) (g .latitude .spacing * g .longitude .spacing)
+unfolding valueAt bilinear weighted surface line
+value-is g f p = ap (λ (z : ℤ). roundHalfUp z (g .latitude .spacing * g .longitude .spacing)) (nested _ _ _ _ _ _ _ _)
+
+-- One in a hundred, rounded up.
+abbrev pub hundredth : ℕ → ℕ
+hundredth D = (D + 99) / 100
+
+module _ {length : ℕ} (g : Geometry) (o : Open length g) (f : ℕ → ℕ → ℤ) where
+  on-latitude : (p : Point) → inside g p ≡ true → onAxis (g .latitude) (p .latitude) ≡ true
+  unfolding inside
+  on-latitude p i = and-left _ _ i
+
+  on-longitude : (p : Point) → inside g p ≡ true → onAxis (g .longitude) (p .longitude) ≡ true
+  unfolding inside
+  on-longitude p i = and-right (onAxis (g .latitude) (p .latitude)) _ i
+
+  spaced : 1 ≤ g .latitude .spacing * g .longitude .spacing
+  spaced = mul-le-mul (o .latitude .spacing-least) (o .longitude .spacing-least)
+
+  -- A value is within the nodes' limit.
+  pub value-limit : (M : ℕ) → ((row column : ℕ) → row < rows g → column < columns g → natAbs (f row column) ≤ M) → (p : Point) → inside g p ≡ true → natAbs (valueAt g f p) ≤ M
+  unfolding surface
+  value-limit M limit p i =
+      rw (value-is g f p)
+      (round-bound (surface g f p) (g .latitude .spacing * g .longitude .spacing) M spaced
+      (omega (
+        arith,
+        line-limit (g .latitude) (o .latitude) (λ row. line (g .longitude) (f row) (p .longitude)) (g .longitude .spacing * M)
+            (λ row l. line-limit (g .longitude) (o .longitude) (f row) M (λ column m. limit row column l m) (p .longitude) (on-longitude p i)) (p .latitude) (on-latitude p i),
+      )))
+
+  module _ (A B : ℕ)
+      (north : (row column : ℕ) → row + 1 < rows g → column < columns g → Near A (f row column) (f (row + 1) column))
+      (east : (row column : ℕ) → row < rows g → column + 1 < columns g → Near B (f row column) (f row (column + 1)))
+    where
+      surface-change : (D : ℕ) (q r : Point) → inside g q ≡ true → inside g r ≡ true → Close D q r
+          → Near (D * (A * g .longitude .spacing + B * g .latitude .spacing)) (surface g f q) (surface g f r)
+      unfolding surface
+      surface-change D q r i j h =
+          let along : ℤ → ℕ → ℤ = λ z row. line (g .longitude) (f row) z in
+          let a : Near (D * (g .longitude .spacing * A)) (line (g .latitude) (along (q .longitude)) (q .latitude)) (line (g .latitude) (along (q .longitude)) (r .latitude)) =
+          line-change (g .latitude) (o .latitude) (along (q .longitude)) (g .longitude .spacing * A)
+          (λ row l. line-near (g .longitude) (o .longitude) (f row) (f (row + 1)) A (λ column m. north row column l m) (q .longitude) (on-longitude q i))
+          D (q .latitude) (r .latitude) (on-latitude q i) (on-latitude r j) (h .latitude) in
+          let b : Near (g .latitude .spacing * (D * B)) (line (g .latitude) (along (q .longitude)) (r .latitude)) (line (g .latitude) (along (r .longitude)) (r .latitude)) =
+          line-near (g .latitude) (o .latitude) (along (q .longitude)) (along (r .longitude)) (D * B)
+          (λ row l. line-change (g .longitude) (o .longitude) (f row) B (λ column m. east row column l m) D (q .longitude) (r .longitude) (on-longitude q i) (on-longitude r j) (h .longitude))
+          (r .latitude) (on-latitude r j) in
+          omega arith
+
+      -- Under question 12, a value changes by at most one in a hundred, rounded up.
+      pub value-change : 100 * (A * g .longitude .spacing + B * g .latitude .spacing) ≤ g .latitude .spacing * g .longitude .spacing
+          → (D : ℕ) (q r : Point) → inside g q ≡ true → inside g r ≡ true → Close D q r → Near (hundredth D) (valueAt g f q) (valueAt g f r)
+      value-change slope D q r i j h =
+          let n = hundredth D in
+          let m : D ≤ n * 100 = omega arith in
+          rw (value-is g f q, value-is g f r)
+          (round-close (surface g f q) (surface g f r) (g .latitude .spacing * g .longitude .spacing) n spaced
+          (near-mono (omega (arith, mul-le-mul-right (A * g .longitude .spacing + B * g .latitude .spacing) m, mul-le-mul-left n slope)) (surface-change D q r i j h)))
