@@ -2,3 +2,4 @@
 pub mod Line
 pub mod Points
 pub mod Interpolation
+pub mod Iteration
