@@ -39,6 +39,10 @@ pub record Solution (s : Source) (stop : ℕ) (p q : Point) : Type 0 where
   pub found : s .corrections from ≡ values correction
   pub sum : Sum q correction p
 
+-- A point is a solution for what it goes back to.
+pub itself : (s : Source) (q : Point) (c : Correction) → s .inside q ≡ true → s .corrections q ≡ values c → Solution s 0 (plus q c) q
+itself s q c i h = record { inside = i; from = q; from-inside = i; near = close-self 0 q; correction = c; found = h; sum = plus-sum q c }
+
 -- Every answer of the way out is a solution, whatever the corrections.
 pub sound : (s : Source) (stop : ℕ) (p : Point) (left n : ℕ) (r : Point) → s .inside r ≡ true → (e : Settled)
     → iterate s stop p left n r ≡ values e → Solution s stop p (e .point) × (n < e .count)
@@ -105,10 +109,6 @@ module _ {s : Source} {at : Point → Correction} {lag : ℕ → ℕ} {M : ℕ} 
       let j : Close (e + lag (a + D + b)) q q′ = omega (arith, h, k, l, solved v, solved w) in
       let m = close-within j in
       close-most (solve D (omega arith)) f
-
-  -- A point is a solution for what it goes back to.
-  pub itself : {q : Point} → s .inside q ≡ true → Solution s 0 (plus q (at q)) q
-  itself {q} i = record { inside = i; from = q; from-inside = i; near = close-self 0 q; correction = at q; found = S .answered q i; sum = plus-sum q (at q) }
 
   -- A point with room for two corrections goes back to one with room for one.
   pub back-room : {q : Point} → s .inside q ≡ true → Room s (M + M) q → Room s M (plus q (at q))

@@ -3,3 +3,4 @@ pub mod Line
 pub mod Points
 pub mod Interpolation
 pub mod Iteration
+pub mod Trips
