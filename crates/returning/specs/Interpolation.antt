@@ -17,6 +17,7 @@ use Rattle.rules.specs.Image.{rows, columns}
 use Rattle.rules.specs.Questions.{AxisPasses, Open}
 use Rattle.rules.specs.Bilinear.{weighted, bilinear, valueAt}
 use Rattle.rules.specs.Lookup.{onAxis, inside}
+use Rattle.rules.proofs.Cells.{on-latitude, on-longitude}
 use Rattle.returning.specs.Line.{mix, mix-parts, line, line-near, line-limit, line-change}
 use Rattle.returning.specs.Points.{Close}
 
@@ -50,14 +51,6 @@ abbrev pub hundredth : ℕ → ℕ
 hundredth D = (D + 99) / 100
 
 module _ {length : ℕ} (g : Geometry) (o : Open length g) (f : ℕ → ℕ → ℤ) where
-  on-latitude : (p : Point) → inside g p ≡ true → onAxis (g .latitude) (p .latitude) ≡ true
-  unfolding inside
-  on-latitude p i = and-left _ _ i
-
-  on-longitude : (p : Point) → inside g p ≡ true → onAxis (g .longitude) (p .longitude) ≡ true
-  unfolding inside
-  on-longitude p i = and-right (onAxis (g .latitude) (p .latitude)) _ i
-
   spaced : 1 ≤ g .latitude .spacing * g .longitude .spacing
   spaced = mul-le-mul (o .latitude .spacing-least) (o .longitude .spacing-least)
 
@@ -70,7 +63,7 @@ module _ {length : ℕ} (g : Geometry) (o : Open length g) (f : ℕ → ℕ → 
       (omega (
         arith,
         line-limit (g .latitude) (o .latitude) (λ row. line (g .longitude) (f row) (p .longitude)) (g .longitude .spacing * M)
-            (λ row l. line-limit (g .longitude) (o .longitude) (f row) M (λ column m. limit row column l m) (p .longitude) (on-longitude p i)) (p .latitude) (on-latitude p i),
+            (λ row l. line-limit (g .longitude) (o .longitude) (f row) M (λ column m. limit row column l m) (p .longitude) (on-longitude g p i)) (p .latitude) (on-latitude g p i),
       )))
 
   module _ (A B : ℕ)
@@ -84,12 +77,12 @@ module _ {length : ℕ} (g : Geometry) (o : Open length g) (f : ℕ → ℕ → 
           let along : ℤ → ℕ → ℤ = λ z row. line (g .longitude) (f row) z in
           let a : Near (D * (g .longitude .spacing * A)) (line (g .latitude) (along (q .longitude)) (q .latitude)) (line (g .latitude) (along (q .longitude)) (r .latitude)) =
           line-change (g .latitude) (o .latitude) (along (q .longitude)) (g .longitude .spacing * A)
-          (λ row l. line-near (g .longitude) (o .longitude) (f row) (f (row + 1)) A (λ column m. north row column l m) (q .longitude) (on-longitude q i))
-          D (q .latitude) (r .latitude) (on-latitude q i) (on-latitude r j) (h .latitude) in
+          (λ row l. line-near (g .longitude) (o .longitude) (f row) (f (row + 1)) A (λ column m. north row column l m) (q .longitude) (on-longitude g q i))
+          D (q .latitude) (r .latitude) (on-latitude g q i) (on-latitude g r j) (h .latitude) in
           let b : Near (g .latitude .spacing * (D * B)) (line (g .latitude) (along (q .longitude)) (r .latitude)) (line (g .latitude) (along (r .longitude)) (r .latitude)) =
           line-near (g .latitude) (o .latitude) (along (q .longitude)) (along (r .longitude)) (D * B)
-          (λ row l. line-change (g .longitude) (o .longitude) (f row) B (λ column m. east row column l m) D (q .longitude) (r .longitude) (on-longitude q i) (on-longitude r j) (h .longitude))
-          (r .latitude) (on-latitude r j) in
+          (λ row l. line-change (g .longitude) (o .longitude) (f row) B (λ column m. east row column l m) D (q .longitude) (r .longitude) (on-longitude g q i) (on-longitude g r j) (h .longitude))
+          (r .latitude) (on-latitude g r j) in
           omega arith
 
       -- Under question 12, a value changes by at most one in a hundred, rounded up.

@@ -4,3 +4,5 @@ pub mod Points
 pub mod Interpolation
 pub mod Iteration
 pub mod Trips
+pub mod Passing
+pub mod Return

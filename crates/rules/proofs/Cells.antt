@@ -7,15 +7,17 @@ use native.Mathlib.Nat.{min-le-left, min-le-right, min-eq-left, min-eq-right, le
 use native.Mathlib.Omega.{arith}
 use lib.IntN.{ℤ, pos, natAbs, _-ℤ_}
 use lib.Signed.{_≤ℤ_, leZ}
-use Rattle.integers.specs.Difference.{order, var, lit, _⊕_, _⊖_}
+use Rattle.integers.specs.Difference.{≤ℤ-parts, order, var, lit, _⊕_, _⊖_}
 use Rattle.integers.specs.Distance.{abs-is}
-use Rattle.integers.specs.Machine.{zarith}
-use Rattle.integers.specs.Tests.{and-left, and-right}
+use Rattle.integers.specs.Machine.{is-leZ, zarith}
+use Rattle.integers.specs.Tests.{and-left, and-right, and-both}
 use Rattle.rules.specs.declared.Axis.{Axis}
+use Rattle.rules.specs.declared.Geometry.{Geometry}
+use Rattle.rules.specs.declared.Point.{Point}
 use Rattle.rules.specs.Image.{farBound}
 use Rattle.rules.specs.Questions.{AxisPasses}
 use Rattle.rules.specs.Bilinear.{offset, cellOf, partOf}
-use Rattle.rules.specs.Lookup.{onAxis}
+use Rattle.rules.specs.Lookup.{onAxis, inside}
 
 -- An angle on the axis lies between its bounds.
 pub from-start : (a : Axis) (z : ℤ) → onAxis a z ≡ true → a .start ≤ℤ z
@@ -25,6 +27,19 @@ from-start a z h = let t = and-left (leZ (a .start) z) (leZ z (farBound a)) h in
 pub to-far : (a : Axis) (z : ℤ) → onAxis a z ≡ true → z ≤ℤ farBound a
 unfolding onAxis
 to-far a z h = let t = and-right (leZ (a .start) z) (leZ z (farBound a)) h in omega zarith
+
+pub on-axis : (a : Axis) (z : ℤ) → a .start ≤ℤ z → z ≤ℤ farBound a → onAxis a z ≡ true
+unfolding onAxis
+on-axis a z h k = and-both (is-leZ (a .start) z (≤ℤ-parts _ _ h)) (is-leZ z (farBound a) (≤ℤ-parts _ _ k))
+
+-- A point in the bounds lies on both axes.
+pub on-latitude : (g : Geometry) (p : Point) → inside g p ≡ true → onAxis (g .latitude) (p .latitude) ≡ true
+unfolding inside
+on-latitude g p h = and-left _ _ h
+
+pub on-longitude : (g : Geometry) (p : Point) → inside g p ≡ true → onAxis (g .longitude) (p .longitude) ≡ true
+unfolding inside
+on-longitude g p h = and-right (onAxis (g .latitude) (p .latitude)) _ h
 
 -- Its offset is at most (count − 1) spacings.
 pub offset-most : (a : Axis) (z : ℤ) → onAxis a z ≡ true → offset a z ≤ (a .count - 1) * a .spacing
