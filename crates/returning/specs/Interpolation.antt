@@ -7,16 +7,14 @@ use native.Mathlib.Nat.{mul-le-mul, mul-le-mul-left, mul-le-mul-right}
 use native.Mathlib.Omega.{arith}
 use lib.IntN.{ℤ, pos, natAbs, _+ℤ_, _*ℤ_}
 use Rattle.integers.specs.Difference.{up, down, order, var, lit, _⊕_, _⊗_}
-use Rattle.integers.specs.Distance.{Near, near-mono, abs-is, size}
+use Rattle.integers.specs.Distance.{Near, near-trans, near-mono}
 use Rattle.integers.specs.Rounding.{roundHalfUp, round-close, round-bound}
-use Rattle.integers.specs.Tests.{and-left, and-right}
-use Rattle.rules.specs.declared.Axis.{Axis}
 use Rattle.rules.specs.declared.Geometry.{Geometry}
 use Rattle.rules.specs.declared.Point.{Point}
 use Rattle.rules.specs.Image.{rows, columns}
-use Rattle.rules.specs.Questions.{AxisPasses, Open}
+use Rattle.rules.specs.Questions.{Open}
 use Rattle.rules.specs.Bilinear.{weighted, bilinear, valueAt}
-use Rattle.rules.specs.Lookup.{onAxis, inside}
+use Rattle.rules.specs.Lookup.{inside}
 use Rattle.rules.proofs.Cells.{on-latitude, on-longitude}
 use Rattle.returning.specs.Line.{mix, mix-parts, line, line-near, line-limit, line-change}
 use Rattle.returning.specs.Points.{Close}
@@ -38,59 +36,55 @@ nested a b c d s u t v =
       times-mix c d u t v,
     )
 
--- P × Q times the exact value at a point.
+-- P × Q, and P × Q times the exact value at a point.
+abbrev pub area : Geometry → ℕ
+area g = g .latitude .spacing * g .longitude .spacing
+
 unfoldable pub surface : Geometry → (ℕ → ℕ → ℤ) → Point → ℤ
 surface g f p = line (g .latitude) (λ row. line (g .longitude) (f row) (p .longitude)) (p .latitude)
 
-pub value-is : (g : Geometry) (f : ℕ → ℕ → ℤ) (p : Point) → valueAt g f p ≡ roundHalfUp (surface g f p) (g .latitude .spacing * g .longitude .spacing)
+pub value-is : (g : Geometry) (f : ℕ → ℕ → ℤ) (p : Point) → valueAt g f p ≡ roundHalfUp (surface g f p) (area g)
 unfolding valueAt bilinear weighted surface line
-value-is g f p = ap (λ (z : ℤ). roundHalfUp z (g .latitude .spacing * g .longitude .spacing)) (nested _ _ _ _ _ _ _ _)
+value-is g f p = ap (λ (z : ℤ). roundHalfUp z (area g)) (nested _ _ _ _ _ _ _ _)
 
 -- One in a hundred, rounded up.
 abbrev pub hundredth : ℕ → ℕ
 hundredth D = (D + 99) / 100
 
 module _ {length : ℕ} (g : Geometry) (o : Open length g) (f : ℕ → ℕ → ℤ) where
-  spaced : 1 ≤ g .latitude .spacing * g .longitude .spacing
+  spaced : 1 ≤ area g
   spaced = mul-le-mul (o .latitude .spacing-least) (o .longitude .spacing-least)
 
   -- A value is within the nodes' limit.
-  pub value-limit : (M : ℕ) → ((row column : ℕ) → row < rows g → column < columns g → natAbs (f row column) ≤ M) → (p : Point) → inside g p ≡ true → natAbs (valueAt g f p) ≤ M
+  pub value-limit : (M : ℕ) → ((row column : ℕ) → row < rows g → column < columns g → natAbs (f row column) ≤ M)
+      → (p : Point) → inside g p ≡ true → natAbs (valueAt g f p) ≤ M
   unfolding surface
   value-limit M limit p i =
-      rw (value-is g f p)
-      (round-bound (surface g f p) (g .latitude .spacing * g .longitude .spacing) M spaced
-      (omega (
-        arith,
-        line-limit (g .latitude) (o .latitude) (λ row. line (g .longitude) (f row) (p .longitude)) (g .longitude .spacing * M)
-            (λ row l. line-limit (g .longitude) (o .longitude) (f row) M (λ column m. limit row column l m) (p .longitude) (on-longitude g p i)) (p .latitude) (on-latitude g p i),
-      )))
+      let n : natAbs (surface g f p) ≤ g .latitude .spacing * (g .longitude .spacing * M) =
+      line-limit (o .latitude) _ _ (λ row l. line-limit (o .longitude) (f row) M (λ column m. limit row column l m) _ (on-longitude g p i)) _ (on-latitude g p i) in
+      rw (value-is g f p) (round-bound (surface g f p) (area g) M spaced (omega arith))
 
   module _ (A B : ℕ)
       (north : (row column : ℕ) → row + 1 < rows g → column < columns g → Near A (f row column) (f (row + 1) column))
       (east : (row column : ℕ) → row < rows g → column + 1 < columns g → Near B (f row column) (f row (column + 1)))
     where
+      -- First along the latitude, then along the longitude.
       surface-change : (D : ℕ) (q r : Point) → inside g q ≡ true → inside g r ≡ true → Close D q r
-          → Near (D * (A * g .longitude .spacing + B * g .latitude .spacing)) (surface g f q) (surface g f r)
+          → Near (D * (g .longitude .spacing * A) + g .latitude .spacing * (D * B)) (surface g f q) (surface g f r)
       unfolding surface
       surface-change D q r i j h =
-          let along : ℤ → ℕ → ℤ = λ z row. line (g .longitude) (f row) z in
-          let a : Near (D * (g .longitude .spacing * A)) (line (g .latitude) (along (q .longitude)) (q .latitude)) (line (g .latitude) (along (q .longitude)) (r .latitude)) =
-          line-change (g .latitude) (o .latitude) (along (q .longitude)) (g .longitude .spacing * A)
-          (λ row l. line-near (g .longitude) (o .longitude) (f row) (f (row + 1)) A (λ column m. north row column l m) (q .longitude) (on-longitude g q i))
-          D (q .latitude) (r .latitude) (on-latitude g q i) (on-latitude g r j) (h .latitude) in
-          let b : Near (g .latitude .spacing * (D * B)) (line (g .latitude) (along (q .longitude)) (r .latitude)) (line (g .latitude) (along (r .longitude)) (r .latitude)) =
-          line-near (g .latitude) (o .latitude) (along (q .longitude)) (along (r .longitude)) (D * B)
-          (λ row l. line-change (g .longitude) (o .longitude) (f row) B (λ column m. east row column l m) D (q .longitude) (r .longitude) (on-longitude g q i) (on-longitude g r j) (h .longitude))
-          (r .latitude) (on-latitude g r j) in
-          omega arith
+          near-trans
+          (line-change (o .latitude) _ _ (λ row l. line-near (o .longitude) (f row) (f (row + 1)) A (λ column m. north row column l m) (q .longitude) (on-longitude g q i))
+          D (q .latitude) (r .latitude) (on-latitude g q i) (on-latitude g r j) (h .latitude))
+          (line-near (o .latitude) _ _ _ (λ row l. line-change (o .longitude) (f row) B (λ column m. east row column l m) D (q .longitude) (r .longitude) (on-longitude g q i) (on-longitude g r j) (h .longitude))
+          (r .latitude) (on-latitude g r j))
 
       -- Under question 12, a value changes by at most one in a hundred, rounded up.
-      pub value-change : 100 * (A * g .longitude .spacing + B * g .latitude .spacing) ≤ g .latitude .spacing * g .longitude .spacing
-          → (D : ℕ) (q r : Point) → inside g q ≡ true → inside g r ≡ true → Close D q r → Near (hundredth D) (valueAt g f q) (valueAt g f r)
-      value-change slope D q r i j h =
+      pub value-change : 100 * (A * g .longitude .spacing + B * g .latitude .spacing) ≤ area g
+          → (q r : Point) (D : ℕ) → inside g q ≡ true → inside g r ≡ true → Close D q r → Near (hundredth D) (valueAt g f q) (valueAt g f r)
+      value-change slope q r D i j h =
           let n = hundredth D in
           let m : D ≤ n * 100 = omega arith in
           rw (value-is g f q, value-is g f r)
-          (round-close (surface g f q) (surface g f r) (g .latitude .spacing * g .longitude .spacing) n spaced
+          (round-close (surface g f q) (surface g f r) (area g) n spaced
           (near-mono (omega (arith, mul-le-mul-right (A * g .longitude .spacing + B * g .latitude .spacing) m, mul-le-mul-left n slope)) (surface-change D q r i j h)))

@@ -4,10 +4,10 @@ use mathlib.Core.Bool.{true}
 use mathlib.Core.Path.{_≡_, ap}
 use Prim.Native.Nat.{ℕ, zero, suc, _+_, _*_, _-_, _≤_, _<_}
 use native.Mathlib.Decide.{decLe}
-use native.Mathlib.Nat.{le-refl, mul-le-mul-right}
+use native.Mathlib.Nat.{le-refl, mul-le-mul-right, sub-add-cancel, add-sub-of-le}
 use native.Mathlib.Omega.{arith}
 use lib.IntN.{ℤ, pos, natAbs, _+ℤ_, _*ℤ_}
-use Rattle.integers.specs.Difference.{up, down, order, var, lit, _⊕_, _⊖_, _⊗_}
+use Rattle.integers.specs.Difference.{up, down, var, lit, _⊕_, _⊖_, _⊗_}
 use Rattle.integers.specs.Distance.{Near, near-sym, near-mono, abs-is, abs-add, abs-mul-≤}
 use Rattle.rules.specs.declared.Axis.{Axis}
 use Rattle.rules.specs.Questions.{AxisPasses}
@@ -28,14 +28,14 @@ mix-parts a b s u = omega (arith, var a ⊗ lit s ⊕ var b ⊗ lit u)
 scaled : {k : ℕ} {x y : ℤ} (s : ℕ) → Near k x y → (up x * s + down y * s ≤ up y * s + down x * s + k * s) × (up y * s + down x * s ≤ up x * s + down y * s + k * s)
 scaled s h = (omega (arith, mul-le-mul-right s (h .above)), omega (arith, mul-le-mul-right s (h .below)))
 
--- Values at most E apart have mixes at most E times the weights apart.
-mix-near : {E : ℕ} (a b a′ b′ : ℤ) (s u : ℕ) → Near E a a′ → Near E b b′ → Near ((s + u) * E) (mix a b s u) (mix a′ b′ s u)
-mix-near a b a′ b′ s u h k = omega (arith, mix-parts a b s u, mix-parts a′ b′ s u, scaled s h, scaled u k)
+-- Values at most E apart, or at most M from zero, under weights of P together.
+mix-near : {E : ℕ} {a b a′ b′ : ℤ} (s u P : ℕ) → s + u ≡ P → Near E a a′ → Near E b b′ → Near (P * E) (mix a b s u) (mix a′ b′ s u)
+mix-near {a} {b} {a′} {b′} s u P e h k = rw (← e) (omega (arith, mix-parts a b s u, mix-parts a′ b′ s u, scaled s h, scaled u k))
 
--- Values at most M from zero.
-mix-limit : {M : ℕ} (a b : ℤ) (s u : ℕ) → natAbs a ≤ M → natAbs b ≤ M → natAbs (mix a b s u) ≤ (s + u) * M
+mix-limit : {M : ℕ} (a b : ℤ) (s u P : ℕ) → s + u ≡ P → natAbs a ≤ M → natAbs b ≤ M → natAbs (mix a b s u) ≤ P * M
 unfolding mix
-mix-limit a b s u h k = omega (arith, abs-add (a *ℤ pos s) (b *ℤ pos u), abs-mul-≤ a (pos s) h (le-refl s), abs-mul-≤ b (pos u) k (le-refl u))
+mix-limit a b s u P e h k =
+    rw (← e) (omega (arith, abs-add (a *ℤ pos s) (b *ℤ pos u), abs-mul-≤ a (pos s) h (le-refl s), abs-mul-≤ b (pos u) k (le-refl u)))
 
 -- Weight w moved from one value to the other.
 mix-moved : {A : ℕ} (a b : ℤ) (s u w : ℕ) → Near A a b → Near (w * A) (mix a b (s + w) u) (mix a b s (u + w))
@@ -63,21 +63,25 @@ module _ (h : ℕ → ℤ) (count P A : ℕ) (step : (i : ℕ) → i + 1 < count
         mul-le-mul-right A far,
       )
 
+-- The cell of an angle, and the angle's part of it.
+abbrev cellAt : Axis → ℤ → ℕ
+cellAt a z = cellOf a (offset a z)
+
+abbrev partAt : Axis → ℤ → ℕ
+partAt a z = partOf a (offset a z)
+
 -- The value at the angle z of nodes h, times the spacing.
 unfoldable pub line : Axis → (ℕ → ℤ) → ℤ → ℤ
-line a h z =
-    let x = offset a z in
-    mix (h (cellOf a x)) (h (cellOf a x + 1)) (a .spacing - partOf a x) (partOf a x)
+line a h z = mix (h (cellAt a z)) (h (cellAt a z + 1)) (a .spacing - partAt a z) (partAt a z)
 
 offset-near : {D : ℕ} (a : Axis) (z w : ℤ) → Near D z w → offset a w ≤ offset a z + D
 offset-near a z w n = omega (arith, abs-is (var z ⊖ var (a .start)), abs-is (var w ⊖ var (a .start)))
 
-module _ {limit : ℕ} (a : Axis) (o : AxisPasses limit a) where
-  -- An angle on the axis: its cell is one of the axis, and its parts of that cell are those of its offset.
+module _ {limit : ℕ} {a : Axis} (o : AxisPasses limit a) where
   record Place (z : ℤ) : Type 0 where
-    cell-in : cellOf a (offset a z) + 1 < a .count
-    part-in : partOf a (offset a z) ≤ a .spacing
-    cell-part : cellOf a (offset a z) * a .spacing + partOf a (offset a z) ≡ offset a z
+    cell-in : cellAt a z + 1 < a .count
+    whole : a .spacing - partAt a z + partAt a z ≡ a .spacing
+    offset-is : cellAt a z * a .spacing + partAt a z ≡ offset a z
 
   place : (z : ℤ) → onAxis a z ≡ true → Place z
   unfolding partOf
@@ -85,42 +89,33 @@ module _ {limit : ℕ} (a : Axis) (o : AxisPasses limit a) where
       let x = offset a z in
       record {
         cell-in = omega (arith, cell-most a x, o .count-least);
-        part-in = part-most a x o (offset-most a z i);
-        cell-part = omega (arith, cell-start a x);
+        whole = sub-add-cancel (part-most a x o (offset-most a z i));
+        offset-is = omega (arith, cell-start a x);
       }
 
-  -- Node values at most E apart.
-  pub line-near : (h k : ℕ → ℤ) (E : ℕ) → ((i : ℕ) → i < a .count → Near E (h i) (k i)) → (z : ℤ) → onAxis a z ≡ true → Near (a .spacing * E) (line a h z) (line a k z)
+  -- Nodes at most E apart, and nodes at most M from zero.
+  pub line-near : (h k : ℕ → ℤ) (E : ℕ) → ((i : ℕ) → i < a .count → Near E (h i) (k i))
+      → (z : ℤ) → onAxis a z ≡ true → Near (a .spacing * E) (line a h z) (line a k z)
   unfolding line
-  line-near h k E near z i =
-      let c = cellOf a (offset a z) in
-      let u = partOf a (offset a z) in
-      let p = place z i in
-      let e : a .spacing - u + u ≡ a .spacing = omega arith in
-      rw e at (mix-near (h c) (h (c + 1)) (k c) (k (c + 1)) (a .spacing - u) u (near c (omega arith)) (near (c + 1) (p .cell-in)))
+  line-near h k E near z i = let p = place z i in mix-near _ _ _ (p .whole) (near (cellAt a z) (omega arith)) (near (cellAt a z + 1) (p .cell-in))
 
-  -- Node values at most M from zero.
-  pub line-limit : (h : ℕ → ℤ) (M : ℕ) → ((i : ℕ) → i < a .count → natAbs (h i) ≤ M) → (z : ℤ) → onAxis a z ≡ true → natAbs (line a h z) ≤ a .spacing * M
+  pub line-limit : (h : ℕ → ℤ) (M : ℕ) → ((i : ℕ) → i < a .count → natAbs (h i) ≤ M)
+      → (z : ℤ) → onAxis a z ≡ true → natAbs (line a h z) ≤ a .spacing * M
   unfolding line
-  line-limit h M limit z i =
-      let c = cellOf a (offset a z) in
-      let u = partOf a (offset a z) in
-      let p = place z i in
-      let e : a .spacing - u + u ≡ a .spacing = omega arith in
-      rw e at (mix-limit (h c) (h (c + 1)) (a .spacing - u) u (limit c (omega arith)) (limit (c + 1) (p .cell-in)))
+  line-limit h M limit z i = let p = place z i in mix-limit _ _ _ _ _ (p .whole) (limit (cellAt a z) (omega arith)) (limit (cellAt a z + 1) (p .cell-in))
 
   module _ (h : ℕ → ℤ) (A : ℕ) (step : (i : ℕ) → i + 1 < a .count → Near A (h i) (h (i + 1))) (D : ℕ) where
     ahead : (z w : ℤ) → onAxis a z ≡ true → onAxis a w ≡ true → Near D z w → offset a z ≤ offset a w → Near (D * A) (line a h z) (line a h w)
     unfolding line
     ahead z w i j n l =
-        let c = cellOf a (offset a z) in
-        let d = cellOf a (offset a w) in
+        let c = cellAt a z in
+        let d = cellAt a w in
         let p = place z i in
         let q = place w j in
-        let m = cell-order a (offset a z) (offset a w) o l in
-        let e : (c + (d - c)) * a .spacing ≡ d * a .spacing = ap (λ (n : ℕ). n * a .spacing) (omega arith) in
+        let m : c + (d - c) ≡ d = add-sub-of-le (cell-order a (offset a z) (offset a w) o l) in
+        let e = ap (λ (n : ℕ). n * a .spacing) m in
         let f = offset-near a z w n in
-        walk h (a .count) (a .spacing) A step (d - c) c d _ _ _ _ D (omega arith) (q .cell-in) (omega arith) (omega arith) (omega arith) (omega arith)
+        walk h (a .count) (a .spacing) A step (d - c) c d _ _ _ _ D m (q .cell-in) (p .whole) (q .whole) (omega arith) (omega arith)
 
     -- Steps between neighbours at most A: angles at most D apart have values at most D × A apart.
     pub line-change : (z w : ℤ) → onAxis a z ≡ true → onAxis a w ≡ true → Near D z w → Near (D * A) (line a h z) (line a h w)

@@ -1,25 +1,24 @@
 -- A grid that passes the check is a steady source: its nodes are all within question 9's limits, so every lookup in the bounds is answered,
 -- and its steps are within question 12's, so every value changes slowly.
 use mathlib.Core.Bool.{Bool, true, _&&_}
-use mathlib.Core.Path.{_≡_, ap, _∙_}
-use Prim.Native.Nat.{ℕ, zero, suc, _+_, _*_, _-_, _≤_, _<_, max}
+use mathlib.Core.Path.{_≡_}
+use Prim.Native.Nat.{ℕ, zero, suc, _+_, _-_, _≤_, _<_, max}
 use native.Mathlib.Decide.{ℕ-discrete}
 use native.Mathlib.Nat.{le-trans}
 use native.Mathlib.Omega.{arith}
 use lib.IntN.{ℤ, natAbs, _-ℤ_}
-use lib.Signed.{_≤ℤ_}
 use borrow.Author.Tests.{leb-true}
 use Rattle.integers.specs.Difference.{order, var, lit, _⊕_, _⊖_}
 use Rattle.integers.specs.Distance.{Near, near-sym, abs-near, abs-is, size}
-use Rattle.integers.specs.Machine.{zarith}
 use Rattle.integers.specs.Tests.{and-left, and-right, and-both}
 use Rattle.rules.specs.declared.Axis.{Axis}
 use Rattle.rules.specs.declared.Geometry.{Geometry}
 use Rattle.rules.specs.declared.Point.{Point}
 use Rattle.rules.specs.declared.Correction.{Correction}
+use Rattle.rules.specs.declared.Node.{Node}
 use Rattle.rules.specs.declared.Findings.{Findings}
 use Rattle.rules.specs.Units.{within}
-use Rattle.rules.specs.Answers.{values, ask, andThen}
+use Rattle.rules.specs.Answers.{values}
 use Rattle.rules.specs.Image.{Grid, nodeAt, rows, columns, farBound}
 use Rattle.rules.specs.Questions.{AxisPasses, Open}
 use Rattle.rules.specs.Bilinear.{offset, cellOf, valueAt}
@@ -29,7 +28,7 @@ use Rattle.rules.specs.Check.{every, largest, allPass, stepNorth, stepEast, ste
 use Rattle.rules.specs.Promise.{Inside}
 use Rattle.rules.proofs.Opening.{asked}
 use Rattle.rules.proofs.Cells.{from-start, to-far, on-axis, on-latitude, on-longitude, cell-most}
-use Rattle.returning.specs.Points.{Close, Gradual}
+use Rattle.returning.specs.Points.{Gradual}
 use Rattle.returning.specs.Interpolation.{hundredth, value-limit, value-change}
 use Rattle.returning.specs.Iteration.{Room}
 use Rattle.returning.specs.Trips.{Steady}
@@ -53,7 +52,10 @@ largest-at (suc n) f i l = go (λ k. largest-at n f i k) (ℕ-discrete i n)
     go r (yes e) = rw e (omega arith)
     go r (no g) = let k = r (omega arith) in omega arith
 
--- ---- one value: nodes within M that question 12 lets pass
+largest-of : (m n : ℕ) (f : ℕ → ℕ → ℕ) (i j : ℕ) → i < m → j < n → f i j ≤ largest m (λ i. largest n (λ j. f i j))
+largest-of m n f i j k l = le-trans (largest-at n (λ j. f i j) j l) (largest-at m (λ i. largest n (λ j. f i j)) i k)
+
+-- ---- one value: its nodes are within M, and question 12 lets its steps pass
 pub record NodesPass (g : Geometry) (M : ℕ) (f : ℕ → ℕ → ℤ) : Type 0 where
   pub limit : (row column : ℕ) → row < rows g → column < columns g → natAbs (f row column) ≤ M
   pub slope : gentle g (stepsOf g f) ≡ true
@@ -62,23 +64,19 @@ module _ {length : ℕ} (g : Geometry) (o : Open length g) {M : ℕ} (f : ℕ �
   north : (row column : ℕ) → row + 1 < rows g → column < columns g → Near (stepNorth g f) (f row column) (f (row + 1) column)
   unfolding stepNorth
   north row column k l =
-      near-sym (abs-near (stepNorth g f) (f (row + 1) column) (f row column)
-      (le-trans (largest-at (columns g) (λ column. natAbs (f (row + 1) column -ℤ f row column)) column l)
-      (largest-at (rows g - 1) (λ row. largest (columns g) (λ column. natAbs (f (row + 1) column -ℤ f row column))) row (omega arith))))
+      near-sym (abs-near _ _ _ (largest-of (rows g - 1) (columns g) (λ row column. natAbs (f (row + 1) column -ℤ f row column)) row column (omega arith) l))
 
   east : (row column : ℕ) → row < rows g → column + 1 < columns g → Near (stepEast g f) (f row column) (f row (column + 1))
   unfolding stepEast
   east row column k l =
-      near-sym (abs-near (stepEast g f) (f row (column + 1)) (f row column)
-      (le-trans (largest-at (columns g - 1) (λ column. natAbs (f row (column + 1) -ℤ f row column)) column (omega arith))
-      (largest-at (rows g) (λ row. largest (columns g - 1) (λ column. natAbs (f row (column + 1) -ℤ f row column))) row k)))
+      near-sym (abs-near _ _ _ (largest-of (rows g) (columns g - 1) (λ row column. natAbs (f row (column + 1) -ℤ f row column)) row column k (omega arith)))
 
   pub gradual : Gradual (inside g) hundredth M (valueAt g f)
   unfolding gentle stepsOf
   gradual =
       record {
         limit = value-limit g o f M (n .limit);
-        change = λ q r D i j h. value-change g o f (stepNorth g f) (stepEast g f) north east (leb-true _ _ (n .slope)) D q r i j h;
+        change = value-change g o f (stepNorth g f) (stepEast g f) north east (leb-true _ _ (n .slope));
       }
 
 -- ---- a grid
@@ -88,26 +86,29 @@ pub record Passes (g : Grid) : Type 0 where
   pub longitude : NodesPass (g .geometry) 10000000 (g .longitude)
   pub height : NodesPass (g .geometry) 1000000 (g .height)
 
+all-three : (a b c : Bool) → (a && (b && c)) ≡ true → (a ≡ true) × (b ≡ true) × (c ≡ true)
+all-three a b c h = let k = and-right a (b && c) h in (and-left a (b && c) h, and-left b c k, and-right b c k)
+
+node-limits : (n : Node) → nodePasses n ≡ true → (natAbs (n .latitude) ≤ 10000000) × (natAbs (n .longitude) ≤ 10000000) × (natAbs (n .height) ≤ 1000000)
+unfolding nodePasses
+node-limits n h =
+    let t = all-three (within 10000000 (n .latitude)) (within 10000000 (n .longitude)) (within 1000000 (n .height)) h in
+    (leb-true _ _ (t .0), leb-true _ _ (t .1), leb-true _ _ (t .2))
+
 pub passes : (g : Grid) (f : Findings) → check g ≡ values f → Passes g
-unfolding check allPass question12 findingsOf nodePasses
+unfolding check allPass question12 findingsOf
 passes g f h =
     let k = g .geometry in
     let a = asked (allPass g) 9 _ f h in
-    let b = asked (question12 k (findingsOf g)) 12 _ f (a .1) .0 in
+    let b = asked (question12 k (findingsOf g)) 12 _ f (a .1) in
+    let slopes = all-three (gentle k (stepsOf k (g .latitude))) (gentle k (stepsOf k (g .longitude))) (gentle k (stepsOf k (g .height))) (b .0) in
     let nodes : (row column : ℕ) → row < rows k → column < columns k → nodePasses (nodeAt g row column) ≡ true =
-    λ row column i j. every-at (columns k) (λ column. nodePasses (nodeAt g row column)) (every-at (rows k) _ (a .0) row i) column j in
-    let lat = within 10000000 in
+    λ row column i j. every-at (columns k) _ (every-at (rows k) _ (a .0) row i) column j in
     record {
       nodes = nodes;
-      latitude = record { limit = λ row column i j. leb-true _ _ (and-left _ _ (nodes row column i j)); slope = and-left _ _ b };
-      longitude = record {
-        limit = λ row column i j. leb-true _ _ (and-left _ _ (and-right (within 10000000 (g .latitude row column)) _ (nodes row column i j)));
-        slope = and-left _ _ (and-right (gentle k (stepsOf k (g .latitude))) _ b);
-      };
-      height = record {
-        limit = λ row column i j. leb-true _ _ (and-right (within 10000000 (g .longitude row column)) _ (and-right (within 10000000 (g .latitude row column)) _ (nodes row column i j)));
-        slope = and-right (gentle k (stepsOf k (g .longitude))) _ (and-right (gentle k (stepsOf k (g .latitude))) _ b);
-      };
+      latitude = record { limit = λ row column i j. node-limits (nodeAt g row column) (nodes row column i j) .0; slope = slopes .0 };
+      longitude = record { limit = λ row column i j. node-limits (nodeAt g row column) (nodes row column i j) .1; slope = slopes .1 };
+      height = record { limit = λ row column i j. node-limits (nodeAt g row column) (nodes row column i j) .2; slope = slopes .2 };
     }
 
 abbrev pub correctionAt : Grid → Point → Correction
@@ -116,11 +117,8 @@ correctionAt g q = record { latitude = valueAt (g .geometry) (g .latitude) q; lo
 abbrev pub heightAt : Grid → Point → ℤ
 heightAt g q = valueAt (g .geometry) (g .height) q
 
-abs-between : (limit : ℕ) (a z b : ℤ) → a ≤ℤ z → z ≤ℤ b → natAbs a ≤ limit → natAbs b ≤ limit → natAbs z ≤ limit
-abs-between limit a z b h k l m = omega (arith, order, size a, size b, abs-is (var z))
-
-axis-within : {limit : ℕ} (a : Axis) → AxisPasses limit a → (z : ℤ) → onAxis a z ≡ true → natAbs z ≤ limit
-axis-within {limit} a o z i = abs-between limit (a .start) z (farBound a) (from-start a z i) (to-far a z i) (o .start-within) (o .far-within)
+axis-within : {limit : ℕ} {a : Axis} → AxisPasses limit a → (z : ℤ) → onAxis a z ≡ true → natAbs z ≤ limit
+axis-within {a} o z i = omega (arith, order, from-start a z i, to-far a z i, size (a .start), size (farBound a), abs-is (var z))
 
 module _ {length : ℕ} (g : Grid) (o : Open length (g .geometry)) (c : Passes g) where
   -- Question 9 has the answer yes everywhere.
@@ -146,8 +144,8 @@ module _ {length : ℕ} (g : Grid) (o : Open length (g .geometry)) (c : Passes g
         };
         height-answered = λ q i. rw (cells-pass q);
         height = gradual (g .geometry) o (g .height) (c .height);
-        latitude-within = λ q i. axis-within (g .geometry .latitude) (o .latitude) (q .latitude) (on-latitude (g .geometry) q i);
-        longitude-within = λ q i. axis-within (g .geometry .longitude) (o .longitude) (q .longitude) (on-longitude (g .geometry) q i);
+        latitude-within = λ q i. axis-within (o .latitude) (q .latitude) (on-latitude (g .geometry) q i);
+        longitude-within = λ q i. axis-within (o .longitude) (q .longitude) (on-longitude (g .geometry) q i);
       }
 
 -- Every point within M of one that is at least d inside, where d is no less than M, is in the bounds.

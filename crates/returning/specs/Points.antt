@@ -1,5 +1,5 @@
 -- Distances of points, and values over points that are limited and change slowly.
-use mathlib.Core.Bool.{Bool, true, _&&_}
+use mathlib.Core.Bool.{Bool, true}
 use mathlib.Core.Path.{_≡_}
 use Prim.Native.Nat.{ℕ, _≤_}
 use native.Mathlib.Omega.{arith}
@@ -40,8 +40,8 @@ close-settled d p q h = let w = close-within h in and-both (le-leb _ _ (w .latit
 pub close-self : (d : ℕ) (p : Point) → Close d p p
 close-self d p = omega arith
 
-pub close-most : {d e : ℕ} {p q : Point} → d ≤ e → Close d p q → Close e p q
-close-most l h = omega arith
+pub close-mono : {d e : ℕ} {p q : Point} → d ≤ e → Close d p q → Close e p q
+close-mono l h = omega arith
 
 -- A value that is at most M from zero in the bounds, and changes there by at most `lag D` between points at most D apart.
 pub record Gradual (inside : Point → Bool) (lag : ℕ → ℕ) (M : ℕ) (value : Point → ℤ) : Type 0 where

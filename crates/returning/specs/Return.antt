@@ -9,7 +9,7 @@ use Rattle.rules.specs.Answers.{values}
 use Rattle.rules.specs.Image.{gridOf}
 use Rattle.rules.specs.Questions.{opening}
 use Rattle.rules.specs.Ways.{wayBack, wayOut}
-use Rattle.rules.specs.Check.{gridCheck, check}
+use Rattle.rules.specs.Check.{gridCheck}
 use Rattle.rules.specs.Promise.{ReturnPromise}
 use Rattle.rules.proofs.Opening.{followed, opened}
 use Rattle.returning.specs.Trips.{fix-trip, point-trip}

@@ -1,5 +1,5 @@
 -- Out and back, back and out, over any source that answers steadily: the laws with the promise's numbers.
-use mathlib.Core.Bool.{Bool, true}
+use mathlib.Core.Bool.{true}
 use mathlib.Core.List.{List}
 use mathlib.Core.Path.{_≡_, ap, _∙_}
 use Prim.Native.Nat.{ℕ, _+_, _≤_, _^_}
@@ -11,15 +11,14 @@ use Rattle.integers.specs.Distance.{size, abs-add, abs-is}
 use Rattle.integers.specs.Tests.{and-both}
 use Rattle.rules.specs.declared.Point.{Point}
 use Rattle.rules.specs.declared.Correction.{Correction}
-use Rattle.rules.specs.declared.Position.{Position}
 use Rattle.rules.specs.Units.{degrees}
-use Rattle.rules.specs.Answers.{Outcome, values}
+use Rattle.rules.specs.Answers.{values}
 use Rattle.rules.specs.Ways.{Source, question7, plus, position, back, Settled, iterate, out, wayBack, wayOut}
-use Rattle.rules.specs.Promise.{Within, OutAndBack, BackAndOut}
+use Rattle.rules.specs.Promise.{OutAndBack, BackAndOut}
 use Rattle.rules.proofs.Opening.{asked, followed}
-use Rattle.returning.specs.Points.{Close, close-within, within-close, close-self, close-most, Gradual}
+use Rattle.returning.specs.Points.{Close, close-within, within-close, close-self, close-mono, Gradual}
 use Rattle.returning.specs.Interpolation.{hundredth}
-use Rattle.returning.specs.Iteration.{Solution, sound, itself, Slow, Room, Arrival, returns, apart, back-room, settles}
+use Rattle.returning.specs.Iteration.{Solution, sound, itself, Slow, Room, Answered, returns, apart, back-room, settles}
 
 -- A source's corrections and heights in the bounds: answered, limited and slow; and the bounds are within question 7's.
 pub record Steady (s : Source) (at : Point → Correction) (heightAt : Point → ℤ) : Type 0 where
@@ -57,11 +56,11 @@ module _ {s : Source} {at : Point → Correction} {heightAt : Point → ℤ} (t 
   out-values p h i l e j f = rw (limits 100000000 p h i l, i, f, t .height-answered (e .point) j)
 
   -- ---- the promise's numbers; each proof takes them from the goal
-  five-evaluations : (p : Point) → Room s 10000000 p → Arrival (iterate s 1 p 5 0 p) 5
+  five-evaluations : (p : Point) → Room s 10000000 p → Answered (iterate s 1 p 5 0 p) 5
   five-evaluations p room = settles (t .corrections) 1 (λ k. 100 ^ k) (omega arith) (λ k. omega arith) p room _ _ (omega arith) (omega arith)
 
   fix-returns : {p q : Point} → Solution s 1 p q → Close 1 (plus q (at q)) p
-  fix-returns v = close-most (omega arith) (returns (t .corrections) v)
+  fix-returns v = close-mono (omega arith) (returns (t .corrections) v)
 
   others-near : {p q r q′ : Point} → Solution s 1 p q → Solution s 0 r q′ → Close 1 r p → Close 3 q′ q
   others-near v w h = apart (t .corrections) 0 1 1 _ (λ D. omega arith) w v h
