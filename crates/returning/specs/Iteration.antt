@@ -105,10 +105,10 @@ module _ {s : Source} {at : Point → Correction} {lag : ℕ → ℕ} {M : ℕ} 
   pub returns : {stop : ℕ} {p q : Point} → Solution s stop p q → Close (lag stop) (plus q (at q)) p
   returns {q} v = omega (arith, solved v, plus-sum q (at q), alike (v .inside) (v .from-inside) (v .near))
 
-  -- Given points e apart have solutions E apart.
-  pub apart : (a b e E : ℕ) → ((D : ℕ) → D ≤ e + lag (a + D + b) → D ≤ E)
-      → {p p′ q q′ : Point} → Solution s a p q → Solution s b p′ q′ → Close e p p′ → Close E q q′
-  apart a b e E solve {q} {q′} v w h =
+  -- Given points e apart have solutions E apart, where E bounds every distance D that the corrections allow.
+  pub apart : {a b e E : ℕ} {p p′ q q′ : Point} → ((D : ℕ) → D ≤ e + lag (a + D + b) → D ≤ E)
+      → Solution s a p q → Solution s b p′ q′ → Close e p p′ → Close E q q′
+  apart {a} {b} {e} {q} {q′} solve v w h =
       let D = max (natAbs (q .latitude -ℤ q′ .latitude)) (natAbs (q .longitude -ℤ q′ .longitude)) in
       let f : Close D q q′ = within-close record { latitude = omega arith; longitude = omega arith } in
       let g : Close (a + D + b) (v .from) (w .from) = omega (arith, f, v .near, w .near) in

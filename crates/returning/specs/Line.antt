@@ -1,5 +1,5 @@
--- The value between the nodes of one axis, times the spacing: a mix of the values of a cell's two nodes. A walk from cell to cell
--- through the nodes that they share shows that the largest step between neighbours bounds the change along the whole axis.
+-- Interpolation along one axis: the spacing times the value at an angle is a mix of the values of its cell's two nodes. From cell to cell,
+-- through the nodes that they share, the largest step between neighbours bounds the change along the whole axis.
 use mathlib.Core.Bool.{true}
 use mathlib.Core.Path.{_≡_, ap}
 use Prim.Native.Nat.{ℕ, zero, suc, _+_, _*_, _-_, _≤_, _<_}
@@ -13,7 +13,7 @@ use Rattle.rules.specs.declared.Axis.{Axis}
 use Rattle.rules.specs.Questions.{AxisPasses}
 use Rattle.rules.specs.Bilinear.{offset, cellOf, partOf}
 use Rattle.rules.specs.Lookup.{onAxis}
-use Rattle.rules.proofs.Cells.{offset-most, cell-most, cell-start, cell-order, part-most}
+use Rattle.rules.proofs.Cells.{offset-most, cell-nodes, cell-start, cell-order, part-most}
 
 -- Two values with their weights.
 unfoldable pub mix : ℤ → ℤ → (s u : ℕ) → ℤ
@@ -46,20 +46,20 @@ mix-passed : {A : ℕ} (a b c : ℤ) (s u P : ℕ) → s + u ≡ P → Near A a 
 mix-passed a b c s u P e h = rw (← e) (omega (arith, mix-parts a b s u, mix-parts b c (s + u) 0, scaled s h))
 
 module _ (h : ℕ → ℤ) (count P A : ℕ) (step : (i : ℕ) → i + 1 < count → Near A (h i) (h (i + 1))) where
-  -- From cell c on to cell d, which lies k cells further.
-  walk : (k c d s u t v D : ℕ) → c + k ≡ d → d + 1 < count → s + u ≡ P → t + v ≡ P → u ≤ k * P + v → k * P + v ≤ u + D
+  -- From cell c, with weights s and u, on to cell d, which lies k cells further, with weights t and v.
+  further : (k c d s u t v D : ℕ) → c + k ≡ d → d + 1 < count → s + u ≡ P → t + v ≡ P → u ≤ k * P + v → k * P + v ≤ u + D
       → Near (D * A) (mix (h c) (h (c + 1)) s u) (mix (h d) (h (d + 1)) t v)
-  walk zero c d s u t v D e l f g m n =
+  further zero c d s u t v D e l f g m n =
       let e′ : d ≡ c = omega arith in
       let s′ : s ≡ t + (v - u) = omega arith in
       let v′ : u + (v - u) ≡ v = omega arith in
       rw (e′, s′) (near-mono (mul-le-mul-right A (omega arith)) (rw v′ at (mix-moved (h c) (h (c + 1)) t u (v - u) (step c (omega arith)))))
-  walk (suc k) c d s u t v D e l f g m n =
+  further (suc k) c d s u t v D e l f g m n =
       let far : s + (k * P + v) ≤ D = omega arith in
       omega (
         arith,
         mix-passed (h c) (h (c + 1)) (h (c + 1 + 1)) s u P f (step c (omega arith)),
-        walk k (c + 1) d P 0 t v (k * P + v) (omega arith) l (omega arith) g (omega arith) (omega arith),
+        further k (c + 1) d P 0 t v (k * P + v) (omega arith) l (omega arith) g (omega arith) (omega arith),
         mul-le-mul-right A far,
       )
 
@@ -78,6 +78,7 @@ offset-near : {D : ℕ} (a : Axis) (z w : ℤ) → Near D z w → offset a w ≤
 offset-near a z w n = omega (arith, abs-is (var z ⊖ var (a .start)), abs-is (var w ⊖ var (a .start)))
 
 module _ {limit : ℕ} {a : Axis} (o : AxisPasses limit a) where
+  -- Where an angle on the axis lies: its cell and its part of it.
   record Place (z : ℤ) : Type 0 where
     cell-in : cellAt a z + 1 < a .count
     whole : a .spacing - partAt a z + partAt a z ≡ a .spacing
@@ -88,7 +89,7 @@ module _ {limit : ℕ} {a : Axis} (o : AxisPasses limit a) where
   place z i =
       let x = offset a z in
       record {
-        cell-in = omega (arith, cell-most a x, o .count-least);
+        cell-in = cell-nodes a x o;
         whole = sub-add-cancel (part-most a x o (offset-most a z i));
         offset-is = omega (arith, cell-start a x);
       }
@@ -105,6 +106,7 @@ module _ {limit : ℕ} {a : Axis} (o : AxisPasses limit a) where
   line-limit h M limit z i = let p = place z i in mix-limit _ _ _ _ _ (p .whole) (limit (cellAt a z) (omega arith)) (limit (cellAt a z + 1) (p .cell-in))
 
   module _ (h : ℕ → ℤ) (A : ℕ) (step : (i : ℕ) → i + 1 < a .count → Near A (h i) (h (i + 1))) (D : ℕ) where
+    -- The same, for an angle w that does not lie before z.
     ahead : (z w : ℤ) → onAxis a z ≡ true → onAxis a w ≡ true → Near D z w → offset a z ≤ offset a w → Near (D * A) (line a h z) (line a h w)
     unfolding line
     ahead z w i j n l =
@@ -115,7 +117,7 @@ module _ {limit : ℕ} {a : Axis} (o : AxisPasses limit a) where
         let m : c + (d - c) ≡ d = add-sub-of-le (cell-order a (offset a z) (offset a w) o l) in
         let e = ap (λ (n : ℕ). n * a .spacing) m in
         let f = offset-near a z w n in
-        walk h (a .count) (a .spacing) A step (d - c) c d _ _ _ _ D m (q .cell-in) (p .whole) (q .whole) (omega arith) (omega arith)
+        further h (a .count) (a .spacing) A step (d - c) c d _ _ _ _ D m (q .cell-in) (p .whole) (q .whole) (omega arith) (omega arith)
 
     -- Steps between neighbours at most A: angles at most D apart have values at most D × A apart.
     pub line-change : (z w : ℤ) → onAxis a z ≡ true → onAxis a w ≡ true → Near D z w → Near (D * A) (line a h z) (line a h w)

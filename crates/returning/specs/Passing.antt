@@ -6,7 +6,8 @@ use Prim.Native.Nat.{ℕ, zero, suc, _+_, _-_, _≤_, _<_, max}
 use native.Mathlib.Decide.{ℕ-discrete}
 use native.Mathlib.Nat.{le-trans}
 use native.Mathlib.Omega.{arith}
-use lib.IntN.{ℤ, natAbs, _-ℤ_}
+use lib.IntN.{ℤ, pos, natAbs, _+ℤ_, _-ℤ_}
+use lib.Signed.{_≤ℤ_}
 use borrow.Author.Tests.{leb-true}
 use Rattle.integers.specs.Difference.{order, var, lit, _⊕_, _⊖_}
 use Rattle.integers.specs.Distance.{Near, near-sym, abs-near, abs-is, size}
@@ -27,7 +28,7 @@ use Rattle.rules.specs.Ways.{sourceOf}
 use Rattle.rules.specs.Check.{every, largest, allPass, stepNorth, stepEast, stepsOf, gentle, question12, findingsOf, check}
 use Rattle.rules.specs.Promise.{Inside}
 use Rattle.rules.proofs.Opening.{asked}
-use Rattle.rules.proofs.Cells.{from-start, to-far, on-axis, on-latitude, on-longitude, cell-most}
+use Rattle.rules.proofs.Cells.{from-start, to-far, on-axis, on-latitude, on-longitude, cell-nodes}
 use Rattle.returning.specs.Points.{Gradual}
 use Rattle.returning.specs.Interpolation.{hundredth, value-limit, value-change}
 use Rattle.returning.specs.Iteration.{Room}
@@ -129,8 +130,8 @@ module _ {length : ℕ} (g : Grid) (o : Open length (g .geometry)) (c : Passes g
       let b = g .geometry .longitude in
       let i = cellOf a (offset a (q .latitude)) in
       let j = cellOf b (offset b (q .longitude)) in
-      let k : i + 1 < a .count = omega (arith, cell-most a (offset a (q .latitude)), o .latitude .count-least) in
-      let l : j + 1 < b .count = omega (arith, cell-most b (offset b (q .longitude)), o .longitude .count-least) in
+      let k : i + 1 < a .count = cell-nodes a (offset a (q .latitude)) (o .latitude) in
+      let l : j + 1 < b .count = cell-nodes b (offset b (q .longitude)) (o .longitude) in
       and-both (and-both (c .nodes i j (omega arith) (omega arith)) (c .nodes i (j + 1) (omega arith) l)) (and-both (c .nodes (i + 1) j k (omega arith)) (c .nodes (i + 1) (j + 1) k l))
 
   pub steady : Steady (sourceOf g) (correctionAt g) (heightAt g)
@@ -148,12 +149,14 @@ module _ {length : ℕ} (g : Grid) (o : Open length (g .geometry)) (c : Passes g
         longitude-within = λ q i. axis-within (o .longitude) (q .longitude) (on-longitude (g .geometry) q i);
       }
 
--- Every point within M of one that is at least d inside, where d is no less than M, is in the bounds.
+-- Every point within M of one that is at least d inside is in the bounds, where d is no less than M.
+axis-room : (a : Axis) (d M : ℕ) (z w : ℤ) → M ≤ d → (a .start +ℤ pos d) ≤ℤ z → z ≤ℤ (farBound a -ℤ pos d) → Near M w z → onAxis a w ≡ true
+axis-room a d M z w l h k n =
+    on-axis a w (omega (arith, order, var (a .start) ⊕ lit d)) (omega (arith, order, var (farBound a) ⊖ lit d))
+
 pub room : (g : Grid) (d M : ℕ) (p : Point) → M ≤ d → Inside d (g .geometry) p → Room (sourceOf g) M p
 unfolding inside
 room g d M p l n q h =
-    let a = g .geometry .latitude in
-    let b = g .geometry .longitude in
     and-both
-    (on-axis a (q .latitude) (omega (arith, order, n .from-south, h .latitude, var (a .start) ⊕ lit d)) (omega (arith, order, n .to-north, h .latitude, var (farBound a) ⊖ lit d)))
-    (on-axis b (q .longitude) (omega (arith, order, n .from-west, h .longitude, var (b .start) ⊕ lit d)) (omega (arith, order, n .to-east, h .longitude, var (farBound b) ⊖ lit d)))
+    (axis-room (g .geometry .latitude) d M (p .latitude) (q .latitude) l (n .from-south) (n .to-north) (h .latitude))
+    (axis-room (g .geometry .longitude) d M (p .longitude) (q .longitude) l (n .from-west) (n .to-east) (h .longitude))

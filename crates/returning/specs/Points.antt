@@ -19,12 +19,10 @@ pub record Close (d : ℕ) (p q : Point) : Type 0 where
 
 -- The same as the promise and the stop rule have it.
 pub close-within : {d : ℕ} {p q : Point} → Close d p q → Within d p q
-close-within {d} {p} {q} h =
-    record { latitude = near-abs d (p .latitude) (q .latitude) (h .latitude); longitude = near-abs d (p .longitude) (q .longitude) (h .longitude) }
+close-within h = record { latitude = near-abs _ _ _ (h .latitude); longitude = near-abs _ _ _ (h .longitude) }
 
 pub within-close : {d : ℕ} {p q : Point} → Within d p q → Close d p q
-within-close {d} {p} {q} h =
-    record { latitude = abs-near d (p .latitude) (q .latitude) (h .latitude); longitude = abs-near d (p .longitude) (q .longitude) (h .longitude) }
+within-close h = record { latitude = abs-near _ _ _ (h .latitude); longitude = abs-near _ _ _ (h .longitude) }
 
 pub settled-close : (d : ℕ) (p q : Point) → settled d p q ≡ true → Close d p q
 unfolding settled

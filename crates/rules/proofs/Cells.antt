@@ -19,7 +19,7 @@ use Rattle.rules.specs.Questions.{AxisPasses}
 use Rattle.rules.specs.Bilinear.{offset, cellOf, partOf}
 use Rattle.rules.specs.Lookup.{onAxis, inside}
 
--- An angle on the axis lies between its bounds.
+-- An angle on the axis lies between its bounds, both ways.
 pub from-start : (a : Axis) (z : ℤ) → onAxis a z ≡ true → a .start ≤ℤ z
 unfolding onAxis
 from-start a z h = let t = and-left (leZ (a .start) z) (leZ z (farBound a)) h in omega zarith
@@ -50,6 +50,10 @@ offset-most a z h =
 pub cell-most : (a : Axis) (x : ℕ) → cellOf a x ≤ a .count - 2
 unfolding cellOf
 cell-most a x = min-le-right (x / a .spacing) (a .count - 2)
+
+-- Both nodes of a cell are nodes of the axis.
+pub cell-nodes : {limit : ℕ} (a : Axis) (x : ℕ) → AxisPasses limit a → cellOf a x + 1 < a .count
+cell-nodes a x o = omega (arith, cell-most a x, o .count-least)
 
 -- The cell starts at or before the offset.
 pub cell-start : (a : Axis) (x : ℕ) → cellOf a x * a .spacing ≤ x
