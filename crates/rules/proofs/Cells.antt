@@ -32,15 +32,6 @@ pub on-axis : (a : Axis) (z : ℤ) → a .start ≤ℤ z → z ≤ℤ farBound a
 unfolding onAxis
 on-axis a z h k = and-both (is-leZ (a .start) z (≤ℤ-parts _ _ h)) (is-leZ z (farBound a) (≤ℤ-parts _ _ k))
 
--- A point in the bounds lies on both axes.
-pub on-latitude : (g : Geometry) (p : Point) → inside g p ≡ true → onAxis (g .latitude) (p .latitude) ≡ true
-unfolding inside
-on-latitude g p h = and-left _ _ h
-
-pub on-longitude : (g : Geometry) (p : Point) → inside g p ≡ true → onAxis (g .longitude) (p .longitude) ≡ true
-unfolding inside
-on-longitude g p h = and-right (onAxis (g .latitude) (p .latitude)) _ h
-
 -- Its offset is at most (count − 1) spacings.
 pub offset-most : (a : Axis) (z : ℤ) → onAxis a z ≡ true → offset a z ≤ (a .count - 1) * a .spacing
 offset-most a z h =
@@ -76,3 +67,12 @@ part-most a x o h = by (decLe (x / a .spacing) (a .count - 2))
         let m : min (x / a .spacing) (a .count - 2) ≡ a .count - 2 = min-eq-right (omega arith) in
         let e : (a .count - 2 + 1) * a .spacing ≡ (a .count - 1) * a .spacing = ap (λ (n : ℕ). n * a .spacing) (omega (arith, o .count-least)) in
         rw m (omega arith)
+
+-- A point in the bounds lies on both axes.
+pub on-latitude : (g : Geometry) (p : Point) → inside g p ≡ true → onAxis (g .latitude) (p .latitude) ≡ true
+unfolding inside
+on-latitude g p h = and-left _ _ h
+
+pub on-longitude : (g : Geometry) (p : Point) → inside g p ≡ true → onAxis (g .longitude) (p .longitude) ≡ true
+unfolding inside
+on-longitude g p h = and-right (onAxis (g .latitude) (p .latitude)) _ h
