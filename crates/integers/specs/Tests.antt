@@ -12,3 +12,11 @@ and-right false b h = absurd (false≢true h)
 
 pub and-both : {a b : Bool} → a ≡ true → b ≡ true → (a && b) ≡ true
 and-both h k = rw (h, k)
+
+pub all-three : (a b c : Bool) → (a && (b && c)) ≡ true → (a ≡ true) × (b ≡ true) × (c ≡ true)
+all-three a b c h = let k = and-right a (b && c) h in (and-left a (b && c) h, and-left b c k, and-right b c k)
+
+-- A result by a test is that of the one branch or of the other.
+pub branched : {A G : Type 0} (t : Bool) (x y z : A) → cond t x y ≡ z → (t ≡ true → x ≡ z → G) → (t ≡ false → y ≡ z → G) → G
+branched true x y z h f g = f refl h
+branched false x y z h f g = g refl h

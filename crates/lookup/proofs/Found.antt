@@ -14,7 +14,7 @@ use Rattle.rules.specs.Image.{Grid}
 use Rattle.rules.specs.Questions.{Sized}
 use Rattle.rules.specs.Bilinear.{offset, cellOf, partOf, squareOf, bilinear, valueAt}
 use Rattle.rules.specs.Lookup.{onAxis, inside, nodePasses, cellPasses, question9, lookup}
-use Rattle.rules.proofs.Cells.{offset-most, cell-most, part-most}
+use Rattle.rules.proofs.Cells.{offset-most, part-most}
 use Rattle.rules.proofs.Limits.{NodeWithin, node-within}
 use Rattle.bilinear.specs.Mean.{CornersWithin, InCell}
 use Rattle.nodes.specs.Cell.{cellAt, allPass, square}
@@ -35,20 +35,7 @@ pub lookup-is : (g : Grid) (p : Point) → let a = g .geometry .latitude in let 
 unfolding lookup question9 cellPasses allPass cellAt valueAt valuesIn
 lookup-is g p = refl
 
--- A point in the bounds is on both axes.
-pub on-latitude : (g : Geometry) (p : Point) → inside g p ≡ true → onAxis (g .latitude) (p .latitude) ≡ true
-unfolding inside
-on-latitude g p h = and-left _ _ h
-
-pub on-longitude : (g : Geometry) (p : Point) → inside g p ≡ true → onAxis (g .longitude) (p .longitude) ≡ true
-unfolding inside
-on-longitude g p h = and-right (onAxis (g .latitude) (p .latitude)) _ h
-
--- Its cell has a next row or column.
-pub cell-inside : (a : Axis) (z : ℤ) → Sized a → cellFor a z + 1 < a .count
-cell-inside a z s = omega (arith, cell-most a (offset a z))
-
--- Its part of the cell is at most the spacing.
+-- The part of a point in the bounds is at most the spacing.
 pub in-cell : (a o : Axis) (y x : ℤ) → Sized a → Sized o → onAxis a y ≡ true → onAxis o x ≡ true → InCell (partFor a y) (partFor o x) (a .spacing) (o .spacing)
 in-cell a o y x s t h k =
     record {

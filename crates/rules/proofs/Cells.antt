@@ -3,21 +3,23 @@ use mathlib.Core.Bool.{true, _&&_}
 use mathlib.Core.Path.{_≡_, ap}
 use Prim.Native.Nat.{ℕ, _+_, _-_, _*_, _/_, _≤_, _<_, min}
 use native.Mathlib.Decide.{decLe}
-use native.Mathlib.Nat.{mul-le-mul, min-le-left, min-le-right, min-eq-left, min-eq-right, mul-le-mul-right, le-trans, div-mul-le-self, lt-div-mul-add}
+use native.Mathlib.Nat.{mul-le-mul, min-le-left, min-le-right, min-eq-left, min-eq-right, le-min, mul-le-mul-right, le-trans, div-mul-le-self, le-div-iff-mul-le, lt-div-mul-add}
 use native.Mathlib.Omega.{arith}
 use lib.IntN.{ℤ, pos, natAbs, _-ℤ_}
 use lib.Signed.{_≤ℤ_, leZ}
-use Rattle.integers.specs.Difference.{order, var, lit, _⊕_, _⊖_}
+use Rattle.integers.specs.Difference.{≤ℤ-parts, order, var, lit, _⊕_, _⊖_}
 use Rattle.integers.specs.Distance.{abs-is}
-use Rattle.integers.specs.Machine.{zarith}
-use Rattle.integers.specs.Tests.{and-left, and-right}
+use Rattle.integers.specs.Machine.{is-leZ, zarith}
+use Rattle.integers.specs.Tests.{and-left, and-right, and-both}
 use Rattle.rules.specs.declared.Axis.{Axis}
+use Rattle.rules.specs.declared.Geometry.{Geometry}
+use Rattle.rules.specs.declared.Point.{Point}
 use Rattle.rules.specs.Image.{farBound}
 use Rattle.rules.specs.Questions.{Sized}
 use Rattle.rules.specs.Bilinear.{offset, cellOf, partOf}
-use Rattle.rules.specs.Lookup.{onAxis}
+use Rattle.rules.specs.Lookup.{onAxis, inside}
 
--- An angle on the axis lies between its bounds.
+-- An angle on the axis lies between its bounds, both ways.
 pub from-start : (a : Axis) (z : ℤ) → onAxis a z ≡ true → a .start ≤ℤ z
 unfolding onAxis
 from-start a z h = let t = and-left (leZ (a .start) z) (leZ z (farBound a)) h in omega zarith
@@ -25,6 +27,10 @@ from-start a z h = let t = and-left (leZ (a .start) z) (leZ z (farBound a)) h in
 pub to-far : (a : Axis) (z : ℤ) → onAxis a z ≡ true → z ≤ℤ farBound a
 unfolding onAxis
 to-far a z h = let t = and-right (leZ (a .start) z) (leZ z (farBound a)) h in omega zarith
+
+pub on-axis : (a : Axis) (z : ℤ) → a .start ≤ℤ z → z ≤ℤ farBound a → onAxis a z ≡ true
+unfolding onAxis
+on-axis a z h k = and-both (is-leZ (a .start) z (≤ℤ-parts _ _ h)) (is-leZ z (farBound a) (≤ℤ-parts _ _ k))
 
 -- Its offset is at most (count − 1) spacings.
 pub offset-most : (a : Axis) (z : ℤ) → onAxis a z ≡ true → offset a z ≤ (a .count - 1) * a .spacing
@@ -36,10 +42,19 @@ pub cell-most : (a : Axis) (x : ℕ) → cellOf a x ≤ a .count - 2
 unfolding cellOf
 cell-most a x = min-le-right (x / a .spacing) (a .count - 2)
 
+-- Both nodes of a cell are nodes of the axis.
+pub cell-nodes : (a : Axis) (x : ℕ) → Sized a → cellOf a x + 1 < a .count
+cell-nodes a x o = omega (arith, cell-most a x, o .count-least)
+
 -- The cell starts at or before the offset.
 pub cell-start : (a : Axis) (x : ℕ) → cellOf a x * a .spacing ≤ x
 unfolding cellOf
 cell-start a x = le-trans (mul-le-mul-right (a .spacing) (min-le-left (x / a .spacing) (a .count - 2))) (div-mul-le-self x (a .spacing))
+
+-- A larger offset lies in the same cell or in a later one.
+pub cell-order : (a : Axis) (x y : ℕ) → Sized a → x ≤ y → cellOf a x ≤ cellOf a y
+unfolding cellOf
+cell-order a x y o h = le-min (le-div-iff-mul-le (o .spacing-least) .1 (le-trans (cell-start a x) h)) (cell-most a x)
 
 -- The part is at most the spacing.
 pub part-most : (a : Axis) (x : ℕ) → Sized a → x ≤ (a .count - 1) * a .spacing → partOf a x ≤ a .spacing
@@ -56,3 +71,12 @@ part-most a x o h = by (decLe (x / a .spacing) (a .count - 2))
 -- The whole length of an axis.
 pub length-most : (a : Axis) → Sized a → (a .count - 1) * a .spacing ≤ 409500000000
 length-most a s = mul-le-mul {n₂ = 4095} (omega arith) (s .spacing-most)
+
+-- A point in the bounds lies on both axes.
+pub on-latitude : (g : Geometry) (p : Point) → inside g p ≡ true → onAxis (g .latitude) (p .latitude) ≡ true
+unfolding inside
+on-latitude g p h = and-left _ _ h
+
+pub on-longitude : (g : Geometry) (p : Point) → inside g p ≡ true → onAxis (g .longitude) (p .longitude) ≡ true
+unfolding inside
+on-longitude g p h = and-right (onAxis (g .latitude) (p .latitude)) _ h

@@ -14,7 +14,7 @@ use Rattle.rules.specs.declared.Axis.{Axis}
 use Rattle.rules.specs.declared.Geometry.{Geometry}
 use Rattle.rules.specs.declared.Trailer.{Trailer}
 use Rattle.rules.specs.Units.{degrees, between, within}
-use Rattle.rules.specs.Answers.{Outcome, values, number, ask}
+use Rattle.rules.specs.Answers.{Outcome, values, number, ask, andThen}
 use Rattle.rules.specs.Image.{trailerOf, farBound, rows, columns, backOf}
 use Rattle.rules.specs.Questions.{question1, question2, question3, question4, boundsWithin, question5, question6, judge, opening, Sized, AxisPasses, Open}
 
@@ -22,6 +22,11 @@ use Rattle.rules.specs.Questions.{question1, question2, question3, quest
 pub asked : {A : Type 0} (t : Bool) (n : ℕ) (next : Outcome A) (a : A) → ask t n next ≡ values a → (t ≡ true) × (next ≡ values a)
 asked true n next a h = (refl, h)
 asked false n next a h = let z : _≡_ {A = ℕ} 0 1 = cc in absurd (omega arith)
+
+-- Where values came next, the step before gave values.
+pub followed : {A B : Type 0} (o : Outcome A) (next : A → Outcome B) (b : B) → andThen o next ≡ values b → (a : A) × (o ≡ values a) × (next a ≡ values b)
+followed (values a) next b h = (a, refl, h)
+followed (number n) next b h = let z : _≡_ {A = ℕ} 0 1 = cc in absurd (omega arith)
 
 between-low : (low high n : ℕ) → between low high n ≡ true → low ≤ n
 between-low low high n h = leb-true low n (and-left (leb low n) (leb n high) h)

@@ -11,9 +11,11 @@ use Rattle.rules.specs.Answers.{values}
 use Rattle.rules.specs.Image.{gridOf}
 use Rattle.rules.specs.Questions.{Open}
 use Rattle.rules.proofs.Opening.{opened}
+use Rattle.rules.specs.Bilinear.{offset}
+use Rattle.rules.proofs.Cells.{on-latitude, on-longitude, cell-nodes}
 use Rattle.nodes.specs.Cell.{cellAt, allPass}
 use Rattle.lookup.specs.Values.{valuesIn}
-use Rattle.lookup.proofs.Found.{cellFor, partFor, lookup-is, on-latitude, on-longitude, cell-inside, in-cell}
+use Rattle.lookup.proofs.Found.{cellFor, partFor, lookup-is, in-cell}
 use borrow.Author.Needs.{needs}
 use Rattle.lookup.proofs.look_up.Statement.{statement}
 use Rattle.lookup.proofs.look_up.Tie as tie
@@ -55,7 +57,7 @@ place-on-requires-2 c κs = let s = c .before .before .before .before .before .b
 cell-at-requires : tie.Need-cell-at-requires
 cell-at-requires c κs = let s = c .before .before .before .before .before .before .before in
     let o = is-open s in
-    (o, (rw (north (c .before .before) .0) (cell-inside _ (s .args .p .latitude) (o .latitude .sized)), rw (east c .0) (cell-inside _ (s .args .p .longitude) (o .longitude .sized))))
+    (o, (rw (north (c .before .before) .0) (cell-nodes _ (offset (s .args .g .latitude) (s .args .p .latitude)) (o .latitude .sized)), rw (east c .0) (cell-nodes _ (offset (s .args .g .longitude) (s .args .p .longitude)) (o .longitude .sized))))
 
 returns : tie.Need-returns
 returns c = let s = c .before .before .before .before .before .before .before .before .before .before .args in

@@ -1,0 +1,90 @@
+-- The bilinear value over any values by row and column: it is a line over lines, so it is within the nodes' limit, and the steps
+-- between neighbours bound its change.
+use mathlib.Core.Bool.{true}
+use mathlib.Core.Path.{_≡_, ap}
+use Prim.Native.Nat.{ℕ, _+_, _*_, _-_, _≤_, _<_, _/_}
+use native.Mathlib.Nat.{mul-le-mul, mul-le-mul-left, mul-le-mul-right}
+use native.Mathlib.Omega.{arith}
+use lib.IntN.{ℤ, pos, natAbs, _+ℤ_, _*ℤ_}
+use Rattle.integers.specs.Difference.{up, down, order, var, lit, _⊕_, _⊗_}
+use Rattle.integers.specs.Distance.{Near, near-trans, near-mono}
+use Rattle.integers.specs.Rounding.{roundHalfUp, round-close, round-bound}
+use Rattle.rules.specs.declared.Geometry.{Geometry}
+use Rattle.rules.specs.declared.Point.{Point}
+use Rattle.rules.specs.Image.{rows, columns}
+use Rattle.rules.specs.Questions.{Open}
+use Rattle.rules.specs.Bilinear.{weighted, bilinear, valueAt}
+use Rattle.rules.specs.Lookup.{inside}
+use Rattle.rules.proofs.Cells.{on-latitude, on-longitude}
+use Rattle.returning.specs.Line.{mix, mix-parts, line, line-near, line-limit, line-change}
+use Rattle.returning.specs.Points.{Close}
+
+-- ---- the sum of corner times weight is a mix of mixes
+times-mix : (a b : ℤ) (s t v : ℕ) → up (mix a b t v) * s + down a * (s * t) + down b * (s * v) ≡ down (mix a b t v) * s + up a * (s * t) + up b * (s * v)
+times-mix a b s t v =
+    let e : (up (mix a b t v) + down a * t + down b * v) * s ≡ (down (mix a b t v) + up a * t + up b * v) * s = ap (λ (n : ℕ). n * s) (mix-parts a b t v) in
+    omega arith
+
+nested : (a b c d : ℤ) (s u t v : ℕ) → a *ℤ pos (s * t) +ℤ b *ℤ pos (s * v) +ℤ c *ℤ pos (u * t) +ℤ d *ℤ pos (u * v) ≡ mix (mix a b t v) (mix c d t v) s u
+nested a b c d s u t v =
+    omega (
+      arith,
+      order,
+      var a ⊗ lit (s * t) ⊕ var b ⊗ lit (s * v) ⊕ var c ⊗ lit (u * t) ⊕ var d ⊗ lit (u * v),
+      mix-parts (mix a b t v) (mix c d t v) s u,
+      times-mix a b s t v,
+      times-mix c d u t v,
+    )
+
+-- P × Q, and P × Q times the exact value at a point.
+abbrev pub area : Geometry → ℕ
+area g = g .latitude .spacing * g .longitude .spacing
+
+unfoldable pub surface : Geometry → (ℕ → ℕ → ℤ) → Point → ℤ
+surface g f p = line (g .latitude) (λ row. line (g .longitude) (f row) (p .longitude)) (p .latitude)
+
+pub value-is : (g : Geometry) (f : ℕ → ℕ → ℤ) (p : Point) → valueAt g f p ≡ roundHalfUp (surface g f p) (area g)
+unfolding valueAt bilinear weighted surface line
+value-is g f p = ap (λ (z : ℤ). roundHalfUp z (area g)) (nested _ _ _ _ _ _ _ _)
+
+-- One in a hundred, rounded up.
+abbrev pub hundredth : ℕ → ℕ
+hundredth D = (D + 99) / 100
+
+module _ {length : ℕ} (g : Geometry) (o : Open length g) (f : ℕ → ℕ → ℤ) where
+  spaced : 1 ≤ area g
+  spaced = mul-le-mul (o .latitude .sized .spacing-least) (o .longitude .sized .spacing-least)
+
+  -- A value is within the nodes' limit.
+  pub value-limit : (M : ℕ) → ((row column : ℕ) → row < rows g → column < columns g → natAbs (f row column) ≤ M)
+      → (p : Point) → inside g p ≡ true → natAbs (valueAt g f p) ≤ M
+  unfolding surface
+  value-limit M limit p i =
+      let n : natAbs (surface g f p) ≤ g .latitude .spacing * (g .longitude .spacing * M) =
+      line-limit (o .latitude .sized) _ _ (λ row l. line-limit (o .longitude .sized) (f row) M (λ column m. limit row column l m) _ (on-longitude g p i)) _ (on-latitude g p i) in
+      rw (value-is g f p) (round-bound (surface g f p) (area g) M spaced (omega arith))
+
+  module _ (A B : ℕ)
+      (north : (row column : ℕ) → row + 1 < rows g → column < columns g → Near A (f row column) (f (row + 1) column))
+      (east : (row column : ℕ) → row < rows g → column + 1 < columns g → Near B (f row column) (f row (column + 1)))
+    where
+      -- First along the latitude, then along the longitude.
+      surface-change : (D : ℕ) (q r : Point) → inside g q ≡ true → inside g r ≡ true → Close D q r
+          → Near (D * (g .longitude .spacing * A) + g .latitude .spacing * (D * B)) (surface g f q) (surface g f r)
+      unfolding surface
+      surface-change D q r i j h =
+          near-trans
+          (line-change (o .latitude .sized) _ _ (λ row l. line-near (o .longitude .sized) (f row) (f (row + 1)) A (λ column m. north row column l m) (q .longitude) (on-longitude g q i))
+          D (q .latitude) (r .latitude) (on-latitude g q i) (on-latitude g r j) (h .latitude))
+          (line-near (o .latitude .sized) _ _ _ (λ row l. line-change (o .longitude .sized) (f row) B (λ column m. east row column l m) D (q .longitude) (r .longitude) (on-longitude g q i) (on-longitude g r j) (h .longitude))
+          (r .latitude) (on-latitude g r j))
+
+      -- Under question 12, a value changes by at most one in a hundred, rounded up.
+      pub value-change : 100 * (A * g .longitude .spacing + B * g .latitude .spacing) ≤ area g
+          → (q r : Point) (D : ℕ) → inside g q ≡ true → inside g r ≡ true → Close D q r → Near (hundredth D) (valueAt g f q) (valueAt g f r)
+      value-change slope q r D i j h =
+          let n = hundredth D in
+          let m : D ≤ n * 100 = omega arith in
+          rw (value-is g f q, value-is g f r)
+          (round-close (surface g f q) (surface g f r) (area g) n spaced
+          (near-mono (omega (arith, mul-le-mul-right (A * g .longitude .spacing + B * g .latitude .spacing) m, mul-le-mul-left n slope)) (surface-change D q r i j h)))
