@@ -1,0 +1,35 @@
+-- Totals in hundred-thousandths of a second and sizes in nd: writing takes back what reading did, and the split what the total joined.
+use mathlib.Core.Path.{_≡_}
+use Prim.Native.Nat.{ℕ, _+_, _*_, _/_, _%_, _≤_, _<_}
+use native.Mathlib.Omega.{arith}
+use Rattle.rules.specs.declared.Notation.{Notation}
+use Rattle.rules.specs.Units.{degrees}
+use Rattle.rules.specs.Notation.{perDegree, perMinute, total, magnitudeRead, split}
+
+-- A nd is finer than a hundred-thousandth of a second, so rounding to nd and back keeps the total.
+pub total-back : (t : ℕ) → (18 * magnitudeRead t + 25) / 50 ≡ t
+unfolding magnitudeRead
+total-back t = omega arith
+
+-- A total within k degrees is read as a size within k degrees.
+pub read-most : (k t : ℕ) → t ≤ k * perDegree → magnitudeRead t ≤ degrees k
+unfolding magnitudeRead
+read-most k t h = omega arith
+
+-- Only a total of zero is read as zero.
+pub read-zero : (t : ℕ) → magnitudeRead t ≡ 0 → t ≡ 0
+unfolding magnitudeRead
+read-zero t h = omega arith
+
+pub zero-read : (t : ℕ) → t ≡ 0 → magnitudeRead t ≡ 0
+unfolding magnitudeRead
+zero-read t h = omega arith
+
+pub split-total : (n : Notation) (letter : ℕ) → n .minutes < 60 → n .fraction < perMinute → split (total n) letter ≡ record { degrees = n .degrees; minutes = n .minutes; fraction = n .fraction; letter = letter }
+unfolding split total
+split-total n letter h k =
+    let t = n .degrees * perDegree + n .minutes * perMinute + n .fraction in
+    let d : t / perDegree ≡ n .degrees = omega arith in
+    let m : t / perMinute % 60 ≡ n .minutes = omega arith in
+    let f : t % perMinute ≡ n .fraction = omega arith in
+    cc
