@@ -5,6 +5,7 @@ use Prim.Native.Nat.{ℕ, _*_, _≤_, _<_}
 use native.Mathlib.Omega.{arith}
 use lib.Dec.{leb, ltb, eqb}
 use lib.IntN.{ℤ, pos, negℤ}
+use lib.Signed.{ltZ}
 use borrow.Author.Tests.{ltb-true, leb-true, lt-leb, eqb-true, ne-eqb}
 use Rattle.integers.specs.Tests.{and-left, and-right}
 use Rattle.rules.specs.declared.Notation.{Notation}
@@ -26,6 +27,10 @@ abbrev pub angleOn : Side → ℕ → Outcome ℤ
 angleOn Upper size = values (pos size)
 angleOn Lower size = values (negℤ (pos size))
 angleOn Neither size = number 13
+
+-- The letter that is written with an angle: zero counts as N or E.
+abbrev pub letterWritten : Bool → ℤ → ℕ
+letterWritten longitude z = cond (ltZ z (pos 0)) (lowerLetter longitude) (upperLetter longitude)
 
 -- The rule of reading in these two parts.
 in-parts : (a b u l d : Bool) (size : ℕ) → (u ≡ true → l ≡ false)

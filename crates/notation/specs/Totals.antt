@@ -1,5 +1,5 @@
 -- Totals in hundred-thousandths of a second and sizes in nd: writing takes back what reading did, and the split what the total joined.
-use mathlib.Core.Path.{_≡_}
+use mathlib.Core.Path.{_≡_, refl}
 use Prim.Native.Nat.{ℕ, _+_, _*_, _/_, _%_, _≤_, _<_}
 use native.Mathlib.Omega.{arith}
 use Rattle.rules.specs.declared.Notation.{Notation}
@@ -17,15 +17,19 @@ unfolding magnitudeRead
 read-most k t h = omega arith
 
 -- Only a total of zero is read as zero.
-pub read-zero : (t : ℕ) → magnitudeRead t ≡ 0 → t ≡ 0
+pub read-above : {t : ℕ} → 0 < t → 0 < magnitudeRead t
 unfolding magnitudeRead
-read-zero t h = omega arith
+read-above h = omega arith
 
-pub zero-read : (t : ℕ) → t ≡ 0 → magnitudeRead t ≡ 0
+pub read-zero : magnitudeRead 0 ≡ 0
 unfolding magnitudeRead
-zero-read t h = omega arith
+read-zero = refl
 
-pub split-total : (n : Notation) (letter : ℕ) → n .minutes < 60 → n .fraction < perMinute → split (total n) letter ≡ record { degrees = n .degrees; minutes = n .minutes; fraction = n .fraction; letter = letter }
+-- A notation's amounts with a letter.
+abbrev pub lettered : Notation → ℕ → Notation
+lettered n letter = record { degrees = n .degrees; minutes = n .minutes; fraction = n .fraction; letter = letter }
+
+pub split-total : (n : Notation) (letter : ℕ) → n .minutes < 60 → n .fraction < perMinute → split (total n) letter ≡ lettered n letter
 unfolding split total
 split-total n letter h k =
     let t = n .degrees * perDegree + n .minutes * perMinute + n .fraction in

@@ -1,22 +1,16 @@
 -- `notation::write_notation` meets its contract: the size within the axis's limit, then the rule's parts, each from a call's answer.
-use mathlib.Core.Bool.{Bool, true, false, cond}
+use mathlib.Core.Bool.{true, false}
 use mathlib.Core.Path.{_≡_}
-use Prim.Native.Nat.{ℕ}
 use native.Mathlib.Omega.{arith}
-use lib.IntN.{ℤ, pos, natAbs}
-use lib.Signed.{ltZ}
+use lib.IntN.{natAbs}
 use mir.Facts.{toZ-ofZ}
 use borrow.Author.Needs.{needs}
 use borrow.Author.Tests.{le-leb, lt-leb}
 use Rattle.rules.specs.Units.{degrees, within}
-use Rattle.rules.specs.Notation.{axisLimit, upperLetter, lowerLetter, writeNotation, totalWritten}
-use Rattle.notation.specs.Question.{axis-most}
+use Rattle.rules.specs.Notation.{axisLimit, writeNotation, totalWritten}
+use Rattle.notation.specs.Question.{letterWritten, axis-most}
 use Rattle.notation.proofs.write_notation.Statement.{statement}
 use Rattle.notation.proofs.write_notation.Tie as tie
-
--- the letter that the rule writes
-abbrev letterWritten : Bool → ℤ → ℕ
-letterWritten longitude z = cond (ltZ z (pos 0)) (lowerLetter longitude) (upperLetter longitude)
 
 size-is : (c : tie.After-magnitude) → c .magnitude .result ≡ natAbs (c .before .args .nd)
 size-is c = rw (toZ-ofZ (c .before .fits .nd)) at (c .magnitude .ensures)
