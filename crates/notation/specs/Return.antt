@@ -15,11 +15,11 @@ use Rattle.integers.specs.Distance.{size, abs-is}
 use Rattle.integers.specs.Machine.{zarith}
 use Rattle.rules.proofs.Opening.{asked}
 use Rattle.rules.specs.declared.Notation.{Notation}
-use Rattle.rules.specs.Units.{degrees, within}
-use Rattle.rules.specs.Answers.{Outcome, values, number}
-use Rattle.rules.specs.Notation.{total, axisLimit, upperLetter, lowerLetter, magnitudeRead, readNotation, totalWritten, split, writeNotation}
+use Rattle.rules.specs.Units.{degrees}
+use Rattle.rules.specs.Answers.{values}
+use Rattle.rules.specs.Notation.{total, axisLimit, upperLetter, lowerLetter, magnitudeRead, readNotation, totalWritten, writeNotation}
 use Rattle.notation.specs.declared.Side.the-variants.{Upper, Lower, Neither}
-use Rattle.notation.specs.Question.{amountsFit, sideOf, angleOn, letterWritten, read-in-parts, Amounts, amounts}
+use Rattle.notation.specs.Question.{amountsFit, angleOn, letterWritten, read-in-parts, Amounts, amounts}
 use Rattle.notation.specs.Totals.{total-back, read-most, read-above, read-zero, lettered, split-total}
 
 -- An angle is on the upper side with the upper letter, or on the lower side with the lower one.
