@@ -1,12 +1,12 @@
 -- Question 13 in reading, in the two parts that the code asks: the amounts, and the letter's side of zero.
-use mathlib.Core.Bool.{Bool, true, false, cond, _&&_, _||_, and-false}
+use mathlib.Core.Bool.{Bool, true, false, cond, _&&_, _||_}
 use mathlib.Core.Path.{_≡_, refl}
 use Prim.Native.Nat.{ℕ, _*_, _≤_, _<_}
 use native.Mathlib.Omega.{arith}
 use lib.Dec.{leb, ltb, eqb}
 use lib.IntN.{ℤ, pos, negℤ}
 use lib.Signed.{ltZ}
-use borrow.Author.Tests.{ltb-true, leb-true, lt-leb, eqb-true, ne-eqb}
+use borrow.Author.Tests.{ltb-true, leb-true, lt-ltb, eqb-true, ne-eqb}
 use Rattle.integers.specs.Tests.{and-left, and-right}
 use Rattle.rules.specs.declared.Notation.{Notation}
 use Rattle.rules.specs.Answers.{Outcome, values, number, ask}
@@ -68,13 +68,18 @@ amounts longitude n h =
       total-most = leb-true _ _ (and-right b _ k);
     }
 
+pub amounts-not : (longitude : Bool) (n : Notation) → (Amounts longitude n → ⊥) → amountsFit longitude n ≡ false
+amounts-not longitude n never = by (amountsFit longitude n) refl
+  where
+    by : (fit : Bool) → amountsFit longitude n ≡ fit → fit ≡ false
+    by true e = absurd (never (amounts longitude n e))
+    by false e = refl
+
+-- With minutes and hundred-thousandths below theirs, the total decides.
+pub by-total : (longitude : Bool) (n : Notation) → n .minutes < 60 → n .fraction < perMinute → amountsFit longitude n ≡ leb (total n) (axisLimit longitude * perDegree)
+unfolding amountsFit
+by-total longitude n h k = rw (lt-ltb _ _ h, lt-ltb _ _ k)
+
 pub axis-most : (longitude : Bool) → axisLimit longitude ≤ 180
 axis-most true = omega arith
 axis-most false = omega arith
-
--- Degrees above the limit make the total exceed it.
-pub degrees-beyond : (longitude : Bool) (n : Notation) → axisLimit longitude < n .degrees → amountsFit longitude n ≡ false
-unfolding amountsFit total
-degrees-beyond longitude n h =
-    let k : leb (total n) (axisLimit longitude * perDegree) ≡ false = omega (arith, lt-leb) in
-    rw (k, and-false, and-false)

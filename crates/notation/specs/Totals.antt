@@ -29,11 +29,10 @@ read-zero = refl
 abbrev pub lettered : Notation → ℕ → Notation
 lettered n letter = record { degrees = n .degrees; minutes = n .minutes; fraction = n .fraction; letter = letter }
 
+-- Two notations are the same by their parts.
+pub same-parts : (n k : Notation) → n .degrees ≡ k .degrees → n .minutes ≡ k .minutes → n .fraction ≡ k .fraction → n .letter ≡ k .letter → n ≡ k
+same-parts n k d m f l = λ i. record { degrees = d i; minutes = m i; fraction = f i; letter = l i }
+
 pub split-total : (n : Notation) (letter : ℕ) → n .minutes < 60 → n .fraction < perMinute → split (total n) letter ≡ lettered n letter
 unfolding split total
-split-total n letter h k =
-    let t = n .degrees * perDegree + n .minutes * perMinute + n .fraction in
-    let d : t / perDegree ≡ n .degrees = omega arith in
-    let m : t / perMinute % 60 ≡ n .minutes = omega arith in
-    let f : t % perMinute ≡ n .fraction = omega arith in
-    cc
+split-total n letter h k = same-parts _ _ (omega arith) (omega arith) (omega arith) refl
