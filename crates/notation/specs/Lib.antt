@@ -1,4 +1,4 @@
--- What the functions ask one after the other, and the laws of degree notation.
-pub mod Question
+-- What the functions answer, in parts of the rules, and the laws of degree notation.
+pub mod Parts
 pub mod Totals
 pub mod Return

@@ -19,7 +19,7 @@ use Rattle.rules.specs.Units.{degrees}
 use Rattle.rules.specs.Answers.{values}
 use Rattle.rules.specs.Notation.{total, axisLimit, upperLetter, lowerLetter, magnitudeRead, readNotation, totalWritten, writeNotation}
 use Rattle.notation.specs.declared.Side.the-variants.{Upper, Lower, Neither}
-use Rattle.notation.specs.Question.{amountsFit, angleOn, letterWritten, read-in-parts, Amounts, amounts}
+use Rattle.notation.specs.Parts.{amountsFit, angleOn, letterWritten, read-in-parts, Amounts, amounts}
 use Rattle.notation.specs.Totals.{total-back, read-most, read-above, read-zero, lettered, split-total}
 
 -- An angle is on the upper side with the upper letter, or on the lower side with the lower one.

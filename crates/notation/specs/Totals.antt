@@ -1,12 +1,12 @@
 -- Totals in hundred-thousandths of a second and sizes in nd: writing takes back what reading did, and the split what the total joined.
 use mathlib.Core.Path.{_≡_, refl}
-use Prim.Native.Nat.{ℕ, _+_, _*_, _/_, _%_, _≤_, _<_}
+use Prim.Native.Nat.{ℕ, _+_, _*_, _/_, _≤_, _<_}
 use native.Mathlib.Omega.{arith}
 use Rattle.rules.specs.declared.Notation.{Notation}
 use Rattle.rules.specs.Units.{degrees}
 use Rattle.rules.specs.Notation.{perDegree, perMinute, total, magnitudeRead, split}
 
--- A nd is finer than a hundred-thousandth of a second, so rounding to nd and back keeps the total.
+-- An nd is finer than a hundred-thousandth of a second, so rounding to nd and back keeps the total.
 pub total-back : (t : ℕ) → (18 * magnitudeRead t + 25) / 50 ≡ t
 unfolding magnitudeRead
 total-back t = omega arith

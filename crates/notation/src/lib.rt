@@ -13,10 +13,10 @@ ghost use lib.IntN.{pos};
 ghost use Rattle.rules.specs.Units.{degrees};
 ghost use Rattle.rules.specs.Answers.{readingOf, writingOf};
 ghost use Rattle.rules.specs.Notation.{perDegree, total, axisLimit, upperLetter, lowerLetter, magnitudeRead, readNotation, totalWritten, split, writeNotation};
-ghost use Rattle.notation.specs.Question.{sideOf, amountsFit};
+ghost use Rattle.notation.specs.Parts.{sideOf, amountsFit};
 
 // A degree in nd, and a degree and a minute in hundred-thousandths of a second.
-const DEGREE: u64 = 1000000000;
+const ND_PER_DEGREE: u64 = 1000000000;
 
 const PER_DEGREE: u64 = 360000000;
 
@@ -50,7 +50,7 @@ pub fn write_notation(longitude: bool, nd: i64) -> Writing
     ensures { λ r. ⌜ writingOf r ≡ writeNotation longitude nd ⌝ }
 {
     let size = numbers::magnitude(nd);
-    if axis_limit(longitude) * DEGREE < size {
+    if axis_limit(longitude) * ND_PER_DEGREE < size {
         return Writing::Refused(Refusal::BadNotation);
     }
     let letter = letter_of(longitude, nd < 0);
@@ -137,6 +137,6 @@ fn notation_of(size: u64, letter: u8) -> Notation
         degrees: t / PER_DEGREE,
         minutes: t / PER_MINUTE % 60,
         fraction: t % PER_MINUTE,
-        letter: letter,
+        letter,
     }
 }

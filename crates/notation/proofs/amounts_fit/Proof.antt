@@ -3,7 +3,7 @@ use mathlib.Core.Path.{sym}
 use native.Mathlib.Omega.{arith}
 use borrow.Author.Needs.{needs}
 use Rattle.rules.specs.Notation.{total}
-use Rattle.notation.specs.Question.{amounts-not, by-total, axis-most}
+use Rattle.notation.specs.Parts.{amounts-not, by-total, axis-most}
 use Rattle.notation.proofs.amounts_fit.Statement.{statement}
 use Rattle.notation.proofs.amounts_fit.Tie as tie
 

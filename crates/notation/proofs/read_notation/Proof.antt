@@ -13,7 +13,7 @@ use Rattle.integers.specs.Difference.{lit, _⊖_}
 use Rattle.integers.specs.Machine.{zarith, range, got, kept}
 use Rattle.rules.specs.Answers.{values}
 use Rattle.rules.specs.Notation.{perDegree, total, magnitudeRead}
-use Rattle.notation.specs.Question.{amountsFit, amounts, axis-most, read-in-parts}
+use Rattle.notation.specs.Parts.{amountsFit, amounts, axis-most, read-in-parts}
 use Rattle.notation.proofs.read_notation.Statement.{statement}
 use Rattle.notation.proofs.read_notation.Tie as tie
 

@@ -8,7 +8,7 @@ use borrow.Author.Needs.{needs}
 use borrow.Author.Tests.{le-leb, lt-leb}
 use Rattle.rules.specs.Units.{degrees, within}
 use Rattle.rules.specs.Notation.{axisLimit, writeNotation, totalWritten}
-use Rattle.notation.specs.Question.{letterWritten, axis-most}
+use Rattle.notation.specs.Parts.{letterWritten, axis-most}
 use Rattle.notation.proofs.write_notation.Statement.{statement}
 use Rattle.notation.proofs.write_notation.Tie as tie
 

@@ -1,4 +1,5 @@
--- Question 13 in reading, in the two parts that the code asks: the amounts, and the letter's side of zero.
+-- The rules of reading and writing in the parts that the code answers: the amounts of question 13, the side of zero that a letter
+-- means, the letter that is written.
 use mathlib.Core.Bool.{Bool, true, false, cond, _&&_, _||_}
 use mathlib.Core.Path.{_≡_, refl}
 use Prim.Native.Nat.{ℕ, _*_, _≤_, _<_}
@@ -32,7 +33,7 @@ angleOn Neither size = number 13
 abbrev pub letterWritten : Bool → ℤ → ℕ
 letterWritten longitude z = cond (ltZ z (pos 0)) (lowerLetter longitude) (upperLetter longitude)
 
--- The rule of reading in these two parts.
+-- The rule of reading in two of these parts: the amounts, and the letter.
 in-parts : (a b u l d : Bool) (size : ℕ) → (u ≡ true → l ≡ false)
     → ask (a && (b && ((u || l) && d))) 13 (values (cond l (negℤ (pos size)) (pos size))) ≡ ask (a && (b && d)) 13 (angleOn (cond u Upper (cond l Lower Neither)) size)
 in-parts false b u l d size h = refl
