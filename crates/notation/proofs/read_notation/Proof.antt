@@ -1,0 +1,74 @@
+-- `notation::read_notation` meets its contract: the rule in the parts that the code asks, each known from a call's answer.
+use mathlib.Core.Bool.{true}
+use mathlib.Core.Path.{_≡_, sym, ap, _∙_}
+use Prim.Native.Nat.{ℕ, _*_, _≤_}
+use native.Mathlib.Omega.{arith}
+use lib.IntN.{pos, negℤ, +ℤ-idl}
+use mir.Syntax.{w64}
+use mir.Val.{toZ, ofZ}
+use mir.Facts.{toZ-ofZ}
+use borrow.Author.Needs.{needs}
+use borrow.Author.Tests.{not-true, not-false}
+use Rattle.integers.specs.Difference.{lit, _⊖_}
+use Rattle.integers.specs.Machine.{zarith, range, got, kept}
+use Rattle.rules.specs.Answers.{values}
+use Rattle.rules.specs.Notation.{perDegree, total, magnitudeRead}
+use Rattle.notation.specs.Parts.{amountsFit, amounts, axis-most, read-in-parts}
+use Rattle.notation.proofs.read_notation.Statement.{statement}
+use Rattle.notation.proofs.read_notation.Tie as tie
+
+fit : (c : tie.Else1) → amountsFit (c .before .before .args .longitude) (c .before .before .args .n) ≡ true
+fit c = sym (c .before .amounts-fit .ensures) ∙ not-false _ (c .if1 .left)
+
+small-total : (c : tie.Else1) → total (c .before .before .args .n) ≤ 180 * perDegree
+small-total c =
+    let a = amounts _ _ (fit c) in
+    omega (arith, axis-most (c .before .before .args .longitude))
+
+returns : tie.Need-returns
+returns c = rw (read-in-parts, sym (c .before .amounts-fit .ensures) ∙ not-true _ (c .if1 .taken))
+
+total-of-requires : tie.Need-total-of-requires
+total-of-requires c κs = omega (arith, small-total c)
+
+size-of-requires : tie.Need-size-of-requires
+size-of-requires c κs = omega (arith, small-total (c .before))
+
+-- the size in nd, as the machine reads it back
+size-is : (c : tie.After-size-of) → toZ w64 (ofZ w64 (c .size-of .result)) ≡ pos (magnitudeRead (total (c .before .before .before .before .args .n)))
+size-is c = kept w64 (c .size-of .result) (c .size-of .ok) ∙ c .size-of .ensures ∙ ap (λ (t : ℕ). pos (magnitudeRead t)) (c .before .total-of .ensures)
+
+sub-t11 : tie.Need-sub-t11
+sub-t11 c =
+    let s = c .before .before .before .size-of in
+    omega (zarith, lit 0 ⊖ got w64 (s .result) (s .ok), range {w = w64} {z = s .result} (record { sfits = s .ok }), s .ensures)
+
+returns-2 : tie.Need-returns-2
+returns-2 c =
+    rw (read-in-parts, fit (c .before .before .before .before .before), sym (c .before .before .letter-side .ensures) ∙ c .enum-told .given .1)
+    (ap values (size-is (c .before .before .before)))
+
+returns-3 : tie.Need-returns-3
+returns-3 c =
+    rw (read-in-parts, fit (c .before .before .before .before .before), sym (c .before .before .letter-side .ensures) ∙ c .enum-told2 .given .1)
+    (ap values (toZ-ofZ (sub-t11 c) ∙ +ℤ-idl _ ∙ ap negℤ (size-is (c .before .before .before))))
+
+returns-4 : tie.Need-returns-4
+returns-4 c = rw (read-in-parts, fit (c .before .before .before .before .before), sym (c .before .before .letter-side .ensures) ∙ c .enum-told3 .given .1)
+
+pub read-notation-spec : {M : Type 1} → statement M
+read-notation-spec =
+    tie.close
+    (tie.spec
+    (λ c κs. search needs)
+    returns
+    total-of-requires
+    size-of-requires
+    (λ c κs. search needs)
+    (λ c. search needs)
+    (λ c. search needs)
+    sub-t11
+    (λ c. search needs)
+    returns-2
+    returns-3
+    returns-4)

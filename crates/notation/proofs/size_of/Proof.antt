@@ -1,0 +1,17 @@
+-- `notation::size_of` meets its contract: the quotient is far below the half of 64 bits, so the cast keeps it.
+use Prim.Native.Nat.{_+_, _*_, _/_}
+use native.Mathlib.Omega.{arith}
+use mir.Syntax.{w64}
+use borrow.Author.Needs.{needs}
+use Rattle.integers.specs.Machine.{zarith, small}
+use Rattle.rules.specs.Notation.{magnitudeRead}
+use Rattle.notation.proofs.size_of.Statement.{statement}
+use Rattle.notation.proofs.size_of.Tie as tie
+
+returns : tie.Need-returns
+unfolding magnitudeRead
+returns c = omega (zarith, small w64 ((50 * c .args .t + 9) / 18) (omega arith))
+
+pub size-of-spec : {M : Type 1} → statement M
+size-of-spec =
+    tie.close (tie.spec (λ c. search needs) (λ c. search needs) (λ c. search needs) returns)

@@ -1,0 +1,4 @@
+-- What the functions answer, in parts of the rules, and the laws of degree notation.
+pub mod Parts
+pub mod Totals
+pub mod Return

@@ -1,0 +1,141 @@
+// Degree notation: an angle in nd read from degrees, minutes, seconds and a letter, and written so.
+// In every function `longitude` names the axis: true for longitudes, false for latitudes.
+
+use rules::Notation;
+use rules::Reading;
+use rules::Refusal;
+use rules::Writing;
+ghost use mathlib.Core.Bool.{cond};
+ghost use mathlib.Core.Path.{_≡_};
+ghost use Prim.Native.Nat.{_*_, _^_, _≤_, _<_};
+ghost use lib.IntN.{pos};
+ghost use Rattle.rules.specs.Units.{degrees};
+ghost use Rattle.rules.specs.Answers.{readingOf, writingOf};
+ghost use Rattle.rules.specs.Notation.{perDegree, total, axisLimit, upperLetter, lowerLetter, magnitudeRead, readNotation, totalWritten, split, writeNotation};
+ghost use Rattle.notation.specs.Parts.{sideOf, amountsFit};
+
+// A degree in nd, and a degree and a minute in hundred-thousandths of a second.
+const ND_PER_DEGREE: u64 = 1000000000;
+
+const PER_DEGREE: u64 = 360000000;
+
+const PER_MINUTE: u64 = 6000000;
+
+// The side of zero that a letter puts an angle on: N and E the upper one, S and W the lower one.
+enum Side {
+    Upper,
+    Lower,
+    Neither,
+}
+
+// The angle that a notation of an axis gives, or 13.
+pub fn read_notation(longitude: bool, n: Notation) -> Reading
+    ensures { λ r. ⌜ readingOf r ≡ readNotation longitude n ⌝ }
+{
+    if !amounts_fit(longitude, n) {
+        return Reading::Refused(Refusal::BadNotation);
+    }
+    let size = size_of(total_of(n));
+    let letter = n.letter;
+    match letter_side(longitude, letter) {
+        Side::Upper => Reading::Angle(size),
+        Side::Lower => Reading::Angle(-size),
+        Side::Neither => Reading::Refused(Refusal::BadNotation),
+    }
+}
+
+// The notation of an angle of an axis, or 13.
+pub fn write_notation(longitude: bool, nd: i64) -> Writing
+    ensures { λ r. ⌜ writingOf r ≡ writeNotation longitude nd ⌝ }
+{
+    let size = numbers::magnitude(nd);
+    if axis_limit(longitude) * ND_PER_DEGREE < size {
+        return Writing::Refused(Refusal::BadNotation);
+    }
+    let letter = letter_of(longitude, nd < 0);
+    Writing::Written(notation_of(size, letter))
+}
+
+// Question 13 without its letter. Degrees above the limit are refused before they are multiplied.
+fn amounts_fit(longitude: bool, n: Notation) -> bool
+    ensures { λ r. ⌜ r ≡ amountsFit longitude n ⌝ }
+{
+    if 60 <= n.minutes {
+        return false;
+    }
+    if PER_MINUTE <= n.fraction {
+        return false;
+    }
+    let limit = axis_limit(longitude);
+    if limit < n.degrees {
+        return false;
+    }
+    total_of(n) <= limit * PER_DEGREE
+}
+
+// The largest angle of an axis, in degrees.
+fn axis_limit(longitude: bool) -> u64
+    ensures { λ r. ⌜ r ≡ axisLimit longitude ⌝ }
+{
+    if longitude { 180 } else { 90 }
+}
+
+// The total of a notation, in hundred-thousandths of a second.
+fn total_of(n: Notation) -> u64
+    requires { ⌜ total n < 2 ^ 64 ⌝ }
+    ensures { λ r. ⌜ r ≡ total n ⌝ }
+{
+    n.degrees * PER_DEGREE + n.minutes * PER_MINUTE + n.fraction
+}
+
+// The size in nd of an angle of t hundred-thousandths of a second, rounded: 25 × t / 9 plus one half.
+fn size_of(t: u64) -> i64
+    requires { ⌜ t ≤ 180 * perDegree ⌝ }
+    ensures { λ r. ⌜ r ≡ pos (magnitudeRead t) ⌝ }
+{
+    ((50 * t + 9) / 18) as i64
+}
+
+// The side of zero that a letter means on an axis; every byte that is no letter of the axis has neither.
+fn letter_side(longitude: bool, letter: u8) -> Side
+    ensures { λ r. ⌜ r ≡ sideOf longitude letter ⌝ }
+{
+    if longitude {
+        match letter {
+            b'E' => Side::Upper,
+            b'W' => Side::Lower,
+            _ => Side::Neither,
+        }
+    } else {
+        match letter {
+            b'N' => Side::Upper,
+            b'S' => Side::Lower,
+            _ => Side::Neither,
+        }
+    }
+}
+
+// The letter of an angle on an axis, by whether the angle is below zero.
+fn letter_of(longitude: bool, below: bool) -> u8
+    ensures { λ r. ⌜ r ≡ cond below (lowerLetter longitude) (upperLetter longitude) ⌝ }
+{
+    if longitude {
+        if below { b'W' } else { b'E' }
+    } else {
+        if below { b'S' } else { b'N' }
+    }
+}
+
+// The notation of an angle's size in nd, with its letter. The total is rounded first, and then split.
+fn notation_of(size: u64, letter: u8) -> Notation
+    requires { ⌜ size ≤ degrees 180 ⌝ }
+    ensures { λ r. ⌜ r ≡ split (totalWritten (pos size)) letter ⌝ }
+{
+    let t = (18 * size + 25) / 50;
+    Notation {
+        degrees: t / PER_DEGREE,
+        minutes: t / PER_MINUTE % 60,
+        fraction: t % PER_MINUTE,
+        letter,
+    }
+}
