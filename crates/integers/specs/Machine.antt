@@ -6,11 +6,11 @@ use native.Mathlib.Omega.{arith}
 use lib.Dec.{T, ltb, eqb, nleb→lt}
 use lib.IntN.{ℤ, pos, negsuc, natAbs, _+ℤ_, _-ℤ_, _*ℤ_}
 use lib.Signed.{mag, nonNeg, _≤ℤ_, leZ, ltZ, leZ-yes, ltZ-yes, ltZ-no}
-use mir.Syntax.{Width}
+use mir.Syntax.{Width, w64}
 use mir.Val.{Fits, SFits, toZ, ofZ, bits, hbits}
 use mir.Facts.{toZ-ofZ, toZ-pos, fits-natAbs}
 use borrow.Author.Tests.{ltb-true, ltb-false, leb-true, leb-false, lt-ltb, le-ltb, le-leb, lt-leb, eqb-true, eqb-false, eq-eqb, ne-eqb}
-use Rattle.integers.specs.Difference.{up, down, order, ≤ℤ-parts, <ℤ-parts, parts-≤ℤ, parts-<ℤ, Difference, var, _⊖_}
+use Rattle.integers.specs.Difference.{up, down, order, ≤ℤ-parts, <ℤ-parts, parts-≤ℤ, parts-<ℤ, Difference, var, _⊕_, _⊖_}
 use Rattle.integers.specs.Distance.{size, abs-is}
 
 -- A range for `omega` to find by itself: with no case to split, it leaves open the one number 2 ^ hbits above the range
@@ -172,3 +172,26 @@ module _ {w : Width} {x y : ℤ} (fx : SFits w x) (fy : SFits w y) where
   -- the difference of two ordered numbers, cast to an unsigned type as wide or wider: `gap-cast (f .x) (f .y) tt ..`
   pub gap-cast : {w′ : Width} → T (ltb (hbits w) (bits w′)) → y ≤ℤ x → SFits w (x -ℤ y) → T (nonNeg (toZ w (ofZ w (toZ w (ofZ w x) -ℤ toZ w (ofZ w y))))) × Fits w′ (natAbs (toZ w (ofZ w (toZ w (ofZ w x) -ℤ toZ w (ofZ w y)))))
   gap-cast t h f = rw (sub-back f) (is-nonNeg (x -ℤ y) (omega (arith, order, var x ⊖ var y)), fits-natAbs t f)
+
+-- Sums and differences of numbers within 10^18 of zero fit 64 bits, and are read back as they are.
+small-fits : (x : ℤ) → natAbs x ≤ 1000000000000000000 → SFits w64 x
+small-fits x h = omega (zarith, size x)
+
+module _ (x y : ℤ) (h : natAbs x ≤ 1000000000000000000) (k : natAbs y ≤ 1000000000000000000) where
+  sum-small : SFits w64 (x +ℤ y)
+  sum-small = omega (zarith, var x ⊕ var y, size x, size y)
+
+  difference-small : SFits w64 (x -ℤ y)
+  difference-small = omega (zarith, var x ⊖ var y, size x, size y)
+
+  pub sum-fits : SFits w64 (toZ w64 (ofZ w64 x) +ℤ toZ w64 (ofZ w64 y))
+  sum-fits = add-fits (small-fits x h) (small-fits y k) sum-small
+
+  pub sum-back : toZ w64 (ofZ w64 (toZ w64 (ofZ w64 x) +ℤ toZ w64 (ofZ w64 y))) ≡ x +ℤ y
+  sum-back = add-back (small-fits x h) (small-fits y k) sum-small
+
+  pub difference-fits : SFits w64 (toZ w64 (ofZ w64 x) -ℤ toZ w64 (ofZ w64 y))
+  difference-fits = sub-fits (small-fits x h) (small-fits y k) difference-small
+
+  pub difference-back : toZ w64 (ofZ w64 (toZ w64 (ofZ w64 x) -ℤ toZ w64 (ofZ w64 y))) ≡ x -ℤ y
+  difference-back = sub-back (small-fits x h) (small-fits y k) difference-small

@@ -1,7 +1,8 @@
 -- The lookup in terms of a cell's corners, the limits that question 9 establishes of them, and the place of a point in its cell.
 use mathlib.Core.Bool.{true, _&&_}
-use mathlib.Core.Path.{_≡_, refl}
+use mathlib.Core.Path.{_≡_, refl, sym, _∙_}
 use Prim.Native.Nat.{ℕ, _+_, _≤_, _<_}
+use native.Mathlib.Nat.{mul-pos}
 use native.Mathlib.Omega.{arith}
 use lib.IntN.{ℤ, natAbs}
 use Rattle.integers.specs.Tests.{and-left, and-right}
@@ -11,12 +12,14 @@ use Rattle.rules.specs.declared.Point.{Point}
 use Rattle.rules.specs.declared.Node.{Node}
 use Rattle.rules.specs.Answers.{values, ask}
 use Rattle.rules.specs.Image.{Grid}
-use Rattle.rules.specs.Questions.{Sized}
+use Rattle.rules.specs.Questions.{Sized, Open}
 use Rattle.rules.specs.Bilinear.{offset, cellOf, partOf, squareOf, bilinear, valueAt}
 use Rattle.rules.specs.Lookup.{onAxis, inside, nodePasses, cellPasses, question9, lookup}
-use Rattle.rules.proofs.Cells.{offset-most, part-most}
+use Rattle.rules.proofs.Cells.{offset-most, part-most, on-latitude, on-longitude}
+use Rattle.rules.proofs.Opening.{asked}
 use Rattle.rules.proofs.Limits.{NodeWithin, node-within}
 use Rattle.bilinear.specs.Mean.{CornersWithin, InCell}
+use Rattle.bilinear.proofs.Laws.{value-within}
 use Rattle.nodes.specs.Cell.{cellAt, allPass, square}
 use Rattle.nodes.specs.declared.Cell.{Cell}
 use Rattle.lookup.specs.Values.{valuesIn}
@@ -45,8 +48,8 @@ in-cell a o y x s t h k =
       width = omega arith;
     }
 
--- Corners that pass question 9 are within the weighting function's limit, whichever of the three values is weighed.
-pub corners-within : (f : Node → ℤ) → ((n : Node) → NodeWithin n → natAbs (f n) ≤ 10000000) → (c : Cell) → allPass c ≡ true → CornersWithin 10000000 (squareOf (square f c))
+-- Corners that pass question 9 are within the limit of each of the three values.
+pub corners-within : {M : ℕ} (f : Node → ℤ) → ((n : Node) → NodeWithin n → natAbs (f n) ≤ M) → (c : Cell) → allPass c ≡ true → CornersWithin M (squareOf (square f c))
 unfolding allPass
 corners-within f small c h =
     let sw = nodePasses (c .southwest) in
@@ -70,3 +73,22 @@ pub values-are : (c : Cell) (u v P Q : ℕ) {x y z : ℤ}
     → _≡_ {A = Node} (record { latitude = x; longitude = y; height = z }) (valuesIn c u v P Q)
 unfolding valuesIn
 values-are c u v P Q p q r = λ i. record { latitude = p i; longitude = q i; height = r i }
+
+-- The values of a lookup in the bounds are within question 9's limits.
+pub found-within : {size : ℕ} (g : Grid) (p : Point) (n : Node) → Open size (g .geometry) → inside (g .geometry) p ≡ true → lookup g p ≡ values n → NodeWithin n
+unfolding valuesIn
+found-within g p n o i h =
+    let a = g .geometry .latitude in
+    let b = g .geometry .longitude in
+    let c = cellAt g (cellFor a (p .latitude)) (cellFor b (p .longitude)) in
+    let t = asked (allPass c) 9 _ n (sym (lookup-is g p) ∙ h) in
+    let k = in-cell a b (p .latitude) (p .longitude) (o .latitude .sized) (o .longitude .sized) (on-latitude (g .geometry) p i) (on-longitude (g .geometry) p i) in
+    let area = mul-pos (k .height .least) (k .width .least) in
+    let e : valuesIn c (partFor a (p .latitude)) (partFor b (p .longitude)) (a .spacing) (b .spacing) ≡ n = cc (t .1) in
+    let w : NodeWithin (valuesIn c (partFor a (p .latitude)) (partFor b (p .longitude)) (a .spacing) (b .spacing)) =
+    record {
+      latitude = value-within _ (k .north) (k .east) area (corners-within (λ n. n .latitude) (λ n w. w .latitude) c (t .0));
+      longitude = value-within _ (k .north) (k .east) area (corners-within (λ n. n .longitude) (λ n w. w .longitude) c (t .0));
+      height = value-within _ (k .north) (k .east) area (corners-within (λ n. n .height) (λ n w. w .height) c (t .0));
+    } in
+    rw e at w

@@ -1,4 +1,4 @@
-// The lookup at a point of an opened image: the bounds test, the point's cell, question 9 for it, and the three values.
+// Questions 7 to 9 of a point, and the lookup at it: the point's cell and the three values there.
 use bilinear::Place;
 use bilinear::locate;
 use bilinear::weigh;
@@ -9,6 +9,7 @@ use nodes::cell_passes;
 use nodes::height_square;
 use nodes::latitude_square;
 use nodes::longitude_square;
+use numbers::is_within;
 use rules::Axis;
 use rules::Geometry;
 use rules::Lookup;
@@ -24,9 +25,25 @@ ghost use Rattle.rules.specs.Image.{gridOf};
 ghost use Rattle.rules.specs.Questions.{Sized, AxisPasses, opening};
 ghost use Rattle.rules.specs.Bilinear.{offset, cellOf, partOf};
 ghost use Rattle.rules.specs.Lookup as lookup;
+ghost use Rattle.rules.specs.Ways.{question7};
 ghost use Rattle.bilinear.specs.Mean.{InCell};
 ghost use Rattle.nodes.specs.Cell.{allPass};
 ghost use Rattle.lookup.specs.Values.{valuesIn};
+
+// Question 7, with the way's limit on heights.
+pub fn fix_passes(p: Point, height: i64, limit: u64) -> bool
+    ensures { λ r. ⌜ r ≡ question7 limit p height ⌝ }
+{
+    if is_within(p.latitude, 90_000_000_000) {
+        if is_within(p.longitude, 180_000_000_000) {
+            is_within(height, limit)
+        } else {
+            false
+        }
+    } else {
+        false
+    }
+}
 
 // Is the point in the bounds, all four included?
 pub fn in_bounds(g: Geometry, p: Point) -> bool

@@ -10,7 +10,7 @@ use lib.IntN.{ℤ, pos, natAbs, _+ℤ_, _-ℤ_}
 use lib.Signed.{_≤ℤ_}
 use borrow.Author.Tests.{leb-true}
 use Rattle.integers.specs.Difference.{order, var, lit, _⊕_, _⊖_}
-use Rattle.integers.specs.Distance.{Near, near-sym, abs-near, abs-is, size}
+use Rattle.integers.specs.Distance.{Near, near-sym, abs-near}
 use Rattle.integers.specs.Tests.{and-left, and-right, and-both, all-three}
 use Rattle.rules.specs.declared.Axis.{Axis}
 use Rattle.rules.specs.declared.Geometry.{Geometry}
@@ -19,14 +19,14 @@ use Rattle.rules.specs.declared.Correction.{Correction}
 use Rattle.rules.specs.declared.Findings.{Findings}
 use Rattle.rules.specs.Answers.{values}
 use Rattle.rules.specs.Image.{Grid, nodeAt, rows, columns, farBound}
-use Rattle.rules.specs.Questions.{AxisPasses, Open}
+use Rattle.rules.specs.Questions.{Open}
 use Rattle.rules.specs.Bilinear.{offset, cellOf, valueAt}
 use Rattle.rules.specs.Lookup.{onAxis, inside, nodePasses, cellPasses, question9, lookup}
 use Rattle.rules.specs.Ways.{sourceOf}
 use Rattle.rules.specs.Check.{every, largest, allPass, stepNorth, stepEast, stepsOf, gentle, question12, findingsOf, check}
 use Rattle.rules.specs.Promise.{Inside}
 use Rattle.rules.proofs.Opening.{asked}
-use Rattle.rules.proofs.Cells.{from-start, to-far, on-axis, on-latitude, on-longitude, cell-nodes}
+use Rattle.rules.proofs.Cells.{on-axis, axis-within, on-latitude, on-longitude, cell-nodes}
 use Rattle.rules.proofs.Limits.{node-within}
 use Rattle.returning.specs.Points.{Gradual}
 use Rattle.returning.specs.Interpolation.{hundredth, value-limit, value-change}
@@ -107,9 +107,6 @@ correctionAt g q = record { latitude = valueAt (g .geometry) (g .latitude) q; lo
 
 abbrev pub heightAt : Grid → Point → ℤ
 heightAt g q = valueAt (g .geometry) (g .height) q
-
-axis-within : {limit : ℕ} {a : Axis} → AxisPasses limit a → (z : ℤ) → onAxis a z ≡ true → natAbs z ≤ limit
-axis-within {a} o z i = omega (arith, order, from-start a z i, to-far a z i, size (a .start), size (farBound a), abs-is (var z))
 
 module _ {length : ℕ} (g : Grid) (o : Open length (g .geometry)) (c : Passes g) where
   -- Question 9 has the answer yes everywhere.

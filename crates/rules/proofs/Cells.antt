@@ -8,14 +8,14 @@ use native.Mathlib.Omega.{arith}
 use lib.IntN.{ℤ, pos, natAbs, _-ℤ_}
 use lib.Signed.{_≤ℤ_, leZ}
 use Rattle.integers.specs.Difference.{≤ℤ-parts, order, var, lit, _⊕_, _⊖_}
-use Rattle.integers.specs.Distance.{abs-is}
+use Rattle.integers.specs.Distance.{size, abs-is}
 use Rattle.integers.specs.Machine.{is-leZ, zarith}
 use Rattle.integers.specs.Tests.{and-left, and-right, and-both}
 use Rattle.rules.specs.declared.Axis.{Axis}
 use Rattle.rules.specs.declared.Geometry.{Geometry}
 use Rattle.rules.specs.declared.Point.{Point}
 use Rattle.rules.specs.Image.{farBound}
-use Rattle.rules.specs.Questions.{Sized}
+use Rattle.rules.specs.Questions.{Sized, AxisPasses}
 use Rattle.rules.specs.Bilinear.{offset, cellOf, partOf}
 use Rattle.rules.specs.Lookup.{onAxis, inside}
 
@@ -71,6 +71,10 @@ part-most a x o h = by (decLe (x / a .spacing) (a .count - 2))
 -- The whole length of an axis.
 pub length-most : (a : Axis) → Sized a → (a .count - 1) * a .spacing ≤ 409500000000
 length-most a s = mul-le-mul {n₂ = 4095} (omega arith) (s .spacing-most)
+
+-- An angle on the axis is within the limit of its bounds.
+pub axis-within : {limit : ℕ} {a : Axis} → AxisPasses limit a → (z : ℤ) → onAxis a z ≡ true → natAbs z ≤ limit
+axis-within {a} o z i = omega (arith, order, from-start a z i, to-far a z i, size (a .start), size (farBound a), abs-is (var z))
 
 -- A point in the bounds lies on both axes.
 pub on-latitude : (g : Geometry) (p : Point) → inside g p ≡ true → onAxis (g .latitude) (p .latitude) ≡ true

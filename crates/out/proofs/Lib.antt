@@ -1,0 +1,2 @@
+-- Laws of the way out's turns.
+pub mod Turns

@@ -1,0 +1,19 @@
+-- `out::lowered` meets its contract: the difference is small, and the angles are read back from their bits. Assumes nothing.
+use native.Mathlib.Omega.{arith}
+use mir.Syntax.{w64}
+use Rattle.integers.specs.Machine.{kept, difference-fits, difference-back}
+use Rattle.out.proofs.lowered.Statement.{statement}
+use Rattle.out.proofs.lowered.Tie as tie
+
+sub-t7 : tie.Need-sub-t7
+sub-t7 c = let a = c .before .before .before .before .args in difference-fits (a .height) (a .n .height) (omega arith) (omega arith)
+
+returns : tie.Need-returns
+returns c = let a = c .before .before .before .before .args in
+    let latitude = kept w64 (a .q .latitude) (c .before .before .before .struct-told .given .0 .1) in
+    let longitude = kept w64 (a .q .longitude) (c .before .before .struct-told2 .given .1 .0 .1) in
+    let height = difference-back (a .height) (a .n .height) (omega arith) (omega arith) in
+    λ i. record { latitude = latitude i; longitude = longitude i; height = height i; count = a .count }
+
+pub lowered-spec : {M : Type 1} → statement M
+lowered-spec = tie.close (tie.spec sub-t7 returns)

@@ -1,0 +1,41 @@
+-- What one evaluation of the way out leads to, in terms of document 01's iteration.
+use mathlib.Core.Bool.{true, cond}
+use mathlib.Core.Path.{_≡_}
+use Prim.Native.Nat.{ℕ, suc, _+_}
+use Rattle.rules.specs.declared.Geometry.{Geometry}
+use Rattle.rules.specs.declared.Point.{Point}
+use Rattle.rules.specs.declared.Node.{Node}
+use Rattle.rules.specs.declared.Correction.{Correction}
+use Rattle.rules.specs.Answers.{Outcome, values, number, ask, numberOf}
+use Rattle.rules.specs.Image.{Grid}
+use Rattle.rules.specs.Lookup.{inside}
+use Rattle.rules.specs.Ways.{Settled, settled, iterate, sourceOf}
+use Rattle.out.specs.declared.Turn.{Turn}
+use Rattle.out.specs.declared.Turn.the-variants as turn
+
+-- The way out from a turn on, after n evaluations before it.
+abbrev pub onward : Turn → ℕ → (Point → Outcome Settled) → Outcome Settled
+onward (turn.Refused r) n more = number (numberOf r)
+onward (turn.Settled q) n more = values (record { point = q; count = n + 1 })
+onward (turn.Next q) n more = more q
+
+-- The point that a turn leads to is in the bounds.
+abbrev pub LeadsInside : Geometry → Turn → Type 0
+LeadsInside g (turn.Refused r) = Unit {0}
+LeadsInside g (turn.Settled q) = inside g q ≡ true
+LeadsInside g (turn.Next q) = inside g q ≡ true
+
+-- A turn puts question 10 to q and then the stop rule, whatever the way on is.
+pub record Judged (g : Geometry) (r q : Point) (t : Turn) : Type 0 where
+  pub step : (n : ℕ) (more : Point → Outcome Settled)
+      → ask (inside g q) 10 (cond (settled 1 q r) (values (record { point = q; count = n + 1 })) (more q)) ≡ onward t n more
+  pub leads : LeadsInside g t
+
+-- A turn is one evaluation at r of the way out from p: however many evaluations went before and are left.
+pub record Evaluated (g : Grid) (p r : Point) (t : Turn) : Type 0 where
+  pub step : (left n : ℕ) → iterate (sourceOf g) 1 p (suc left) n r ≡ onward t n (λ q. iterate (sourceOf g) 1 p left (n + 1) q)
+  pub leads : LeadsInside (g .geometry) t
+
+-- The corrections of a lookup.
+abbrev pub correctionOf : Node → Correction
+correctionOf n = record { latitude = n .latitude; longitude = n .longitude }
