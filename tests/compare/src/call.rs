@@ -11,26 +11,22 @@ pub enum Way {
     Back,
 }
 
+/// What a list call is given.
+#[derive(Clone, Debug, PartialEq, Eq)]
+pub struct List {
+    pub way: Way,
+    pub image: Vec<u8>,
+    pub fixes: Vec<i64>,
+    pub answers_length: usize,
+}
+
 /// A call with all that it is given.
 #[derive(Clone, Debug, PartialEq, Eq)]
 pub enum Call {
-    GridCheck {
-        image: Vec<u8>,
-    },
-    List {
-        way: Way,
-        image: Vec<u8>,
-        fixes: Vec<i64>,
-        answers_length: usize,
-    },
-    ReadNotation {
-        axis: Axis,
-        notation: Notation,
-    },
-    WriteNotation {
-        axis: Axis,
-        nd: i64,
-    },
+    GridCheck { image: Vec<u8> },
+    List(List),
+    ReadNotation { axis: Axis, notation: Notation },
+    WriteNotation { axis: Axis, nd: i64 },
 }
 
 /// What a call did: its number, what the memory lent for its values holds afterwards, and whether
@@ -52,20 +48,7 @@ impl Call {
     pub fn perform(&self, converter: &dyn Converter, shift: usize) -> Outcome {
         match self {
             Call::GridCheck { image } => perform_check(converter, image, shift),
-            Call::List {
-                way,
-                image,
-                fixes,
-                answers_length,
-            } => {
-                let mut lent_image = Lent::new(image, shift, IMAGE_GUARD);
-                let mut lent_fixes = Lent::new(fixes, 0, UNWRITTEN);
-                let mut answers = unwritten(*answers_length);
-                let (image_part, fixes_part) = (lent_image.part(), lent_fixes.part());
-                let number = converter.list(*way, image_part, fixes_part, answers.part());
-                let unchanged = lent_image.still_holds(image) && lent_fixes.still_holds(fixes);
-                outcome(number, &answers, unchanged)
-            }
+            Call::List(list) => perform_list(converter, list, shift),
             Call::ReadNotation { axis, notation } => {
                 let mut nd = unwritten(1);
                 let number = converter.read_notation(*axis, *notation, &mut nd.part()[0]);
@@ -82,6 +65,15 @@ fn perform_check(converter: &dyn Converter, image: &[u8], shift: usize) -> Outco
     let findings_part = findings.part().try_into().expect("six findings");
     let number = converter.grid_check(lent_image.part(), findings_part);
     outcome(number, &findings, lent_image.still_holds(image))
+}
+
+fn perform_list(converter: &dyn Converter, list: &List, shift: usize) -> Outcome {
+    let mut image = Lent::new(&list.image, shift, IMAGE_GUARD);
+    let mut fixes = Lent::new(&list.fixes, 0, UNWRITTEN);
+    let mut answers = unwritten(list.answers_length);
+    let number = converter.list(list.way, image.part(), fixes.part(), answers.part());
+    let inputs_unchanged = image.still_holds(&list.image) && fixes.still_holds(&list.fixes);
+    outcome(number, &answers, inputs_unchanged)
 }
 
 fn perform_writing(converter: &dyn Converter, axis: Axis, nd: i64) -> Outcome {

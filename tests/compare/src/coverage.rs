@@ -23,7 +23,7 @@ impl Coverage {
     pub fn add(&mut self, call: &Call, outcome: &Outcome) {
         self.calls += 1;
         self.numbers[outcome.number as usize] += 1;
-        let Call::List { way, .. } = call else {
+        let Call::List(list) = call else {
             return;
         };
         if outcome.number != 0 {
@@ -32,7 +32,7 @@ impl Coverage {
         for answer in outcome.written.chunks_exact(5) {
             self.fixes += 1;
             self.numbers[answer[4] as usize] += 1;
-            if *way == Way::Out && answer[4] == 0 {
+            if list.way == Way::Out && answer[4] == 0 {
                 self.counts[answer[3] as usize] += 1;
             }
         }

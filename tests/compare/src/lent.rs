@@ -48,3 +48,22 @@ impl<T: Copy + PartialEq> Lent<T> {
         before.iter().chain(behind).all(|it| *it == self.guard)
     }
 }
+
+#[cfg(test)]
+mod tests {
+    use super::Lent;
+
+    #[test]
+    fn a_write_to_the_lent_part_or_beside_it_is_seen() {
+        let given = [1_u8, 2, 3];
+        let mut lent = Lent::new(&given, 5, 0xA5);
+        assert!(lent.still_holds(&given));
+        lent.part()[2] = 4;
+        assert!(!lent.still_holds(&given) && lent.guards_hold());
+        for beside in [lent.first - 1, lent.first + 3] {
+            let mut lent = Lent::new(&given, 5, 0xA5);
+            lent.memory[beside] = 0;
+            assert!(!lent.guards_hold());
+        }
+    }
+}

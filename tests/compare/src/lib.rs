@@ -15,10 +15,11 @@ mod library;
 mod random;
 mod report;
 
-pub use call::{Call, Outcome, Way};
+pub use call::{Call, List, Outcome, Way};
 pub use command::{parse, Command, USAGE};
 pub use comparison::{compare, compare_case, Difference};
 pub use converter::{Converter, Reference};
 pub use coverage::{Coverage, FULL_RUN};
 #[cfg(feature = "library")]
 pub use library::Library;
+pub use random::Random;

@@ -3,24 +3,26 @@
 use crate::{Converter, Way};
 use reference::{Axis, Notation, Number};
 
+/// Declares the list calls, which are alike but for their names.
+macro_rules! list_calls {
+    ($($name:ident),*) => {
+        extern "C" {
+            $(fn $name(
+                image: *const u8,
+                image_length: usize,
+                fixes: *const i64,
+                fixes_length: usize,
+                answers: *mut i64,
+                answers_length: usize,
+            ) -> i64;)*
+        }
+    };
+}
+
+list_calls!(marker_list_out, marker_list_back);
+
 extern "C" {
     fn marker_grid_check(image: *const u8, image_length: usize, findings: *mut i64) -> i64;
-    fn marker_list_out(
-        image: *const u8,
-        image_length: usize,
-        fixes: *const i64,
-        fixes_length: usize,
-        answers: *mut i64,
-        answers_length: usize,
-    ) -> i64;
-    fn marker_list_back(
-        image: *const u8,
-        image_length: usize,
-        fixes: *const i64,
-        fixes_length: usize,
-        answers: *mut i64,
-        answers_length: usize,
-    ) -> i64;
     fn marker_read_notation(
         longitude: bool,
         degrees: u64,

@@ -8,7 +8,7 @@ use std::fmt::{self, Display, Formatter};
 /// An image is shown up to so many bytes, of its end.
 const SHOWN_BYTES: usize = 400;
 /// A list is shown up to so many of its rows.
-const SHOWN_ROWS: usize = 12;
+const SHOWN_ROWS: usize = 30;
 
 impl Display for Call {
     fn fmt(&self, to: &mut Formatter) -> fmt::Result {
@@ -17,19 +17,12 @@ impl Display for Call {
                 writeln!(to, "grid check")?;
                 show_image(to, image)
             }
-            Call::List {
-                way,
-                image,
-                fixes,
-                answers_length,
-            } => {
-                let lengths = format!(
-                    "{} fix numbers, {answers_length} answer numbers",
-                    fixes.len()
-                );
-                writeln!(to, "list {way:?}: {lengths}")?;
-                show_image(to, image)?;
-                show_rows(to, "fix", fixes, 3)
+            Call::List(list) => {
+                let (fixes, answers) = (list.fixes.len(), list.answers_length);
+                let lengths = format!("{fixes} fix numbers, {answers} answer numbers");
+                writeln!(to, "list {:?}: {lengths}", list.way)?;
+                show_image(to, &list.image)?;
+                show_rows(to, "fix", &list.fixes, 3)
             }
             Call::ReadNotation { axis, notation } => writeln!(to, "read {axis:?} {notation:?}"),
             Call::WriteNotation { axis, nd } => writeln!(to, "write {axis:?} {nd}"),
@@ -37,6 +30,7 @@ impl Display for Call {
     }
 }
 
+/// The trailer's fields and the bytes, a node to a line.
 fn show_image(to: &mut Formatter, image: &[u8]) -> fmt::Result {
     writeln!(to, "image of {} bytes", image.len())?;
     if let Some(trailer) = Trailer::read(image) {
@@ -46,7 +40,8 @@ fn show_image(to: &mut Formatter, image: &[u8]) -> fmt::Result {
     if first > 0 {
         writeln!(to, "its first {first} bytes are not shown")?;
     }
-    for line in image[first..].rchunks(12).rev() {
+    let (nodes, trailer) = image[first..].split_at(image[first..].len().saturating_sub(40));
+    for line in nodes.rchunks(12).rev().chain([trailer]) {
         let hex: Vec<String> = line.iter().map(|byte| format!("{byte:02x}")).collect();
         writeln!(to, "  {}", hex.join(" "))?;
     }
@@ -83,27 +78,31 @@ impl Display for Difference {
         write!(to, "{}", self.call)?;
         writeln!(to, "expected {}", self.expected)?;
         writeln!(to, "found    {}", self.found)?;
-        let pairs = self.expected.written.iter().zip(&self.found.written);
-        let differing = pairs
-            .enumerate()
-            .filter(|(_, (expected, found))| expected != found);
-        for (index, (expected, found)) in differing.take(SHOWN_ROWS) {
-            let (expected, found) = (value(index, *expected), value(index, *found));
-            writeln!(to, "written at {index}: expected {expected}, found {found}")?;
+        let (expected, found) = (rows(&self.expected.written), rows(&self.found.written));
+        for (index, (expected, found)) in expected.zip(found).enumerate() {
+            if expected != found {
+                writeln!(to, "answer {index}: expected {expected}")?;
+                writeln!(to, "answer {index}: found    {found}")?;
+            }
         }
-        writeln!(
-            to,
-            "replay with: compare --replay {}:{}",
-            self.seed, self.index
-        )
+        let case = format!("{}:{}", self.seed, self.index);
+        writeln!(to, "replay with: compare --replay {case}")
     }
 }
 
-/// A number that the call wrote, or a word for one that it left alone.
-fn value(index: usize, number: i64) -> String {
-    if number == mark(index) {
-        "unchanged".to_string()
-    } else {
-        number.to_string()
-    }
+/// What stands in the memory lent for values, five numbers to a row, and a word for each number
+/// that the call left alone.
+fn rows(written: &[i64]) -> impl Iterator<Item = String> + '_ {
+    let words = written.iter().enumerate().map(|(index, number)| {
+        if *number == mark(index) {
+            "unchanged".to_string()
+        } else {
+            number.to_string()
+        }
+    });
+    let words: Vec<String> = words.collect();
+    (0..words.len().div_ceil(5)).map(move |row| {
+        let end = words.len().min(5 * row + 5);
+        words[5 * row..end].join(" ")
+    })
 }

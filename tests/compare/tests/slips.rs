@@ -61,7 +61,10 @@ slips_are_caught! {
     last_cell_not_asked_is_caught: Slip::LastCellNotAsked;
     constant_findings_are_caught: Slip::ConstantFindings;
     first_answer_copied_is_caught: Slip::FirstAnswerCopied;
-    answers_cleared_before_a_refusal_are_caught: Slip::AnswersCleared;
+    answers_cleared_before_a_refusal_are_caught: Slip::ClearedAnswers;
+    findings_cleared_before_a_refusal_are_caught: Slip::ClearedFindings;
+    angle_cleared_before_a_refusal_is_caught: Slip::ClearedAngle;
+    notation_cleared_before_a_refusal_is_caught: Slip::ClearedNotation;
     write_to_the_image_is_caught: Slip::ImageWritten;
     write_to_the_fixes_is_caught: Slip::FixWritten;
     sum_of_corner_times_weight_cut_to_64_bits_is_caught: Slip::SumCutTo64Bits;

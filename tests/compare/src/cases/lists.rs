@@ -4,7 +4,7 @@
 use super::fixes::{any_fix, inner_fix};
 use super::grid::{any_grid, grid_to_move_in, Grid};
 use crate::random::Random;
-use crate::{Call, Way};
+use crate::{Call, List, Way};
 use reference::{lookup, open_image, Point};
 
 /// A list out over any fit image.
@@ -13,12 +13,12 @@ pub fn list_out(random: &mut Random) -> Call {
     if random.chance(30) {
         let fix = inner_fix(random, &grid);
         spoil_on_the_way(random, &mut grid, fix);
-        return Call::List {
+        return Call::List(List {
             way: Way::Out,
             image: grid.image(),
             fixes: fix.to_vec(),
             answers_length: 5,
-        };
+        });
     }
     let image = grid.image();
     list_over(random, Way::Out, &grid, image)
@@ -52,12 +52,12 @@ pub fn list_over(random: &mut Random, way: Way, grid: &Grid, image: Vec<u8>) -> 
         let fixes_length = fixes.len() + random.below(5) as usize;
         fixes.resize(fixes_length.saturating_sub(2), 0);
     }
-    Call::List {
+    Call::List(List {
         way,
         image,
         fixes,
         answers_length,
-    }
+    })
 }
 
 /// A length of the answer list that does not suit so many fixes, most often.

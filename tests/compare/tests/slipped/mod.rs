@@ -37,7 +37,13 @@ pub enum Slip {
     /// Every answer of a list is the first one.
     FirstAnswerCopied,
     /// The answer list is cleared before the questions.
-    AnswersCleared,
+    ClearedAnswers,
+    /// The findings are cleared before the questions.
+    ClearedFindings,
+    /// The angle is cleared before question 13.
+    ClearedAngle,
+    /// The notation is cleared before question 13.
+    ClearedNotation,
     /// One byte of the image is written.
     ImageWritten,
     /// One fix is written.
@@ -147,6 +153,9 @@ fn stop_rule_holds(here: Point, next: Point) -> bool {
 
 impl Converter for Slipped {
     fn grid_check(&self, image: &mut [u8], findings: &mut [i64; 6]) -> Number {
+        if self.has(Slip::ClearedFindings) {
+            findings.fill(0);
+        }
         let number = Reference.grid_check(image, findings);
         if number == 0 && self.has(Slip::ConstantFindings) {
             *findings = [4, 0, 0, 0, 0, 5];
@@ -156,7 +165,7 @@ impl Converter for Slipped {
 
     fn list(&self, way: Way, image: &mut [u8], fixes: &mut [i64], answers: &mut [i64]) -> Number {
         match self.0 {
-            Slip::AnswersCleared => answers.fill(0),
+            Slip::ClearedAnswers => answers.fill(0),
             Slip::ImageWritten => image.iter_mut().take(1).for_each(|byte| *byte ^= 1),
             Slip::FixWritten => fixes.iter_mut().take(1).for_each(|angle| *angle ^= 1),
             _ => {}
@@ -185,13 +194,16 @@ impl Converter for Slipped {
         if self.has(Slip::NegativeZeroRefused) && read == 0 && notation.letter == negative {
             return 13;
         }
-        if number == 0 {
+        if number == 0 || self.has(Slip::ClearedAngle) {
             *nd = read;
         }
         number
     }
 
     fn write_notation(&self, axis: Axis, nd: i64, notation: &mut [u64; 4]) -> Number {
+        if self.has(Slip::ClearedNotation) {
+            notation.fill(0);
+        }
         let number = Reference.write_notation(axis, nd, notation);
         if number == 0 && self.has(Slip::SecondsRoundedAfterTheSplit) {
             // A minute is 50,000,000 / 3 nd.
