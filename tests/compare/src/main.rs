@@ -54,7 +54,10 @@ fn run(seed: u64, count: u64, progress: bool) -> Result<(), String> {
 
 fn replay(seed: u64, index: u64) -> Result<(), String> {
     let (call, outcome) = compare_case(&Library, seed, index).map_err(|it| it.to_string())?;
-    print!("{call}{outcome}\nwritten {:?}\n", outcome.written);
+    println!("{call}{outcome}");
+    for (index, row) in outcome.rows().enumerate() {
+        println!("answer {index}: {row}");
+    }
     println!("compared 1 calls, 0 differences");
     Ok(())
 }

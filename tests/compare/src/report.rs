@@ -59,6 +59,25 @@ fn show_rows(to: &mut Formatter, name: &str, numbers: &[i64], width: usize) -> f
     Ok(())
 }
 
+impl Outcome {
+    /// What stands in the memory lent for values, five numbers to a row, and a word for each
+    /// number that the call left alone.
+    pub fn rows(&self) -> impl Iterator<Item = String> {
+        let words = self.written.iter().enumerate().map(|(index, number)| {
+            if *number == mark(index) {
+                "unchanged".to_string()
+            } else {
+                number.to_string()
+            }
+        });
+        let words: Vec<String> = words.collect();
+        (0..words.len().div_ceil(5)).map(move |row| {
+            let end = words.len().min(5 * row + 5);
+            words[5 * row..end].join(" ")
+        })
+    }
+}
+
 impl Display for Outcome {
     fn fmt(&self, to: &mut Formatter) -> fmt::Result {
         write!(to, "number {}", self.number)?;
@@ -78,7 +97,7 @@ impl Display for Difference {
         write!(to, "{}", self.call)?;
         writeln!(to, "expected {}", self.expected)?;
         writeln!(to, "found    {}", self.found)?;
-        let (expected, found) = (rows(&self.expected.written), rows(&self.found.written));
+        let (expected, found) = (self.expected.rows(), self.found.rows());
         for (index, (expected, found)) in expected.zip(found).enumerate() {
             if expected != found {
                 writeln!(to, "answer {index}: expected {expected}")?;
@@ -88,21 +107,4 @@ impl Display for Difference {
         let case = format!("{}:{}", self.seed, self.index);
         writeln!(to, "replay with: compare --replay {case}")
     }
-}
-
-/// What stands in the memory lent for values, five numbers to a row, and a word for each number
-/// that the call left alone.
-fn rows(written: &[i64]) -> impl Iterator<Item = String> + '_ {
-    let words = written.iter().enumerate().map(|(index, number)| {
-        if *number == mark(index) {
-            "unchanged".to_string()
-        } else {
-            number.to_string()
-        }
-    });
-    let words: Vec<String> = words.collect();
-    (0..words.len().div_ceil(5)).map(move |row| {
-        let end = words.len().min(5 * row + 5);
-        words[5 * row..end].join(" ")
-    })
 }
