@@ -11,7 +11,7 @@ use reference::{lookup, open_image, Point};
 pub fn list_out(random: &mut Random) -> Call {
     let mut grid = grid_to_move_in(random);
     if random.chance(30) {
-        let fix = inner_fix(random, &grid);
+        let fix = fix_with_a_long_way(random, &grid);
         spoil_on_the_way(random, &mut grid, fix);
         return Call::List(List {
             way: Way::Out,
@@ -67,6 +67,20 @@ fn other_length(random: &mut Random, length: usize) -> usize {
     let less = |by: usize| suits.saturating_sub(by);
     let choices = [less(1), suits + 1, less(5), suits + 5, 3 * length, 0, any];
     random.pick(&choices)
+}
+
+/// A fix whose way out can be looked up as far as p5 and changes cell in its last step, if a few
+/// draws find one.
+fn fix_with_a_long_way(random: &mut Random, grid: &Grid) -> [i64; 3] {
+    let mut fix = inner_fix(random, grid);
+    for _ in 0..6 {
+        let cells = cells_on_the_way(grid, fix);
+        if cells.len() == 6 && cells[4] != cells[5] {
+            break;
+        }
+        fix = inner_fix(random, grid);
+    }
+    fix
 }
 
 /// Makes one node unfit in the cell of pk, for some k that the way out from the fix comes to,

@@ -28,10 +28,10 @@ pub fn reading(random: &mut Random) -> Call {
         hundred_thousandths: any_part(random, 6_000_000),
         letter,
     };
-    if random.chance(10) {
+    if random.chance(30) {
         notation.degrees = random.pick(&[0, axis.degrees_limit() as u64]);
         notation.minutes = 0;
-        notation.hundred_thousandths = random.below(4);
+        notation.hundred_thousandths = random.pick(&[0, 0, 1, 2]);
     }
     Call::ReadNotation { axis, notation }
 }
