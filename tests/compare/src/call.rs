@@ -1,0 +1,108 @@
+//! One call, how a converter performs it over lent memory, and what comes of it.
+
+use crate::lent::Lent;
+use crate::Converter;
+use reference::{Axis, Notation, Number};
+
+/// Out (ETRS89 to Bessel and NAP) or back.
+#[derive(Clone, Copy, Debug, PartialEq, Eq)]
+pub enum Way {
+    Out,
+    Back,
+}
+
+/// What a list call is given.
+#[derive(Clone, Debug, PartialEq, Eq)]
+pub struct List {
+    pub way: Way,
+    pub image: Vec<u8>,
+    pub fixes: Vec<i64>,
+    pub answers_length: usize,
+}
+
+/// A call with all that it is given.
+#[derive(Clone, Debug, PartialEq, Eq)]
+pub enum Call {
+    GridCheck { image: Vec<u8> },
+    List(List),
+    ReadNotation { axis: Axis, notation: Notation },
+    WriteNotation { axis: Axis, nd: i64 },
+}
+
+/// What a call did: its number, what the memory lent for its values holds afterwards, and whether
+/// the memory lent for reading and everything beside the lent parts is unchanged.
+#[derive(Clone, Debug, PartialEq, Eq)]
+pub struct Outcome {
+    pub number: Number,
+    pub written: Vec<i64>,
+    pub rest_unchanged: bool,
+}
+
+/// What memory for values holds before a call: no call gives such values.
+const UNWRITTEN: i64 = 0x5EED_0000_0000_0000;
+const IMAGE_GUARD: u8 = 0xA5;
+
+impl Call {
+    /// Performs the call over memory of its own. The shift moves the lent image by some bytes, so
+    /// that it stands at every kind of address.
+    pub fn perform(&self, converter: &dyn Converter, shift: usize) -> Outcome {
+        match self {
+            Call::GridCheck { image } => perform_check(converter, image, shift),
+            Call::List(list) => perform_list(converter, list, shift),
+            Call::ReadNotation { axis, notation } => {
+                let mut nd = unwritten(1);
+                let number = converter.read_notation(*axis, *notation, &mut nd.part()[0]);
+                outcome(number, &nd, true)
+            }
+            Call::WriteNotation { axis, nd } => perform_writing(converter, *axis, *nd),
+        }
+    }
+}
+
+fn perform_check(converter: &dyn Converter, image: &[u8], shift: usize) -> Outcome {
+    let mut lent_image = Lent::new(image, shift, IMAGE_GUARD);
+    let mut findings = unwritten(6);
+    let findings_part = findings.part().try_into().expect("six findings");
+    let number = converter.grid_check(lent_image.part(), findings_part);
+    outcome(number, &findings, lent_image.still_holds(image))
+}
+
+fn perform_list(converter: &dyn Converter, list: &List, shift: usize) -> Outcome {
+    let mut image = Lent::new(&list.image, shift, IMAGE_GUARD);
+    let mut fixes = Lent::new(&list.fixes, 0, UNWRITTEN);
+    let mut answers = unwritten(list.answers_length);
+    let number = converter.list(list.way, image.part(), fixes.part(), answers.part());
+    let inputs_unchanged = image.still_holds(&list.image) && fixes.still_holds(&list.fixes);
+    outcome(number, &answers, inputs_unchanged)
+}
+
+fn perform_writing(converter: &dyn Converter, axis: Axis, nd: i64) -> Outcome {
+    let marks: [u64; 4] = std::array::from_fn(|index| mark(index) as u64);
+    let mut notation = Lent::new(&marks, 0, UNWRITTEN as u64);
+    let notation_part = notation.part().try_into().expect("four numbers");
+    let number = converter.write_notation(axis, nd, notation_part);
+    Outcome {
+        number,
+        written: notation.values().iter().map(|it| *it as i64).collect(),
+        rest_unchanged: notation.guards_hold(),
+    }
+}
+
+fn outcome(number: Number, values: &Lent<i64>, inputs_unchanged: bool) -> Outcome {
+    Outcome {
+        number,
+        written: values.values().to_vec(),
+        rest_unchanged: inputs_unchanged && values.guards_hold(),
+    }
+}
+
+/// What stands at an index of memory for values before the call.
+pub fn mark(index: usize) -> i64 {
+    UNWRITTEN + index as i64
+}
+
+/// Memory for so many values, each marked by its index.
+fn unwritten(length: usize) -> Lent<i64> {
+    let marks: Vec<i64> = (0..length).map(mark).collect();
+    Lent::new(&marks, 0, UNWRITTEN)
+}

@@ -1,0 +1,56 @@
+//! The made-up calls: each follows from a seed and an index alone.
+
+mod damage;
+mod fixes;
+mod geometry;
+mod grid;
+mod lists;
+mod notations;
+mod values;
+
+use crate::random::Random;
+use crate::{Call, Way};
+use grid::Grid;
+
+/// At every so many cases stands one over the largest grid that document 01 allows.
+const LARGEST_GRID_EVERY: u64 = 100_000;
+
+/// The call of one case.
+pub fn call(seed: u64, index: u64) -> Call {
+    let mut random = Random::for_case(seed, index);
+    if index % LARGEST_GRID_EVERY == LARGEST_GRID_EVERY / 2 {
+        return largest_grid_call(&mut random);
+    }
+    match random.below(100) {
+        0..12 => Call::GridCheck {
+            image: grid::any_grid(&mut random).image(),
+        },
+        12..48 => lists::list_out(&mut random),
+        48..68 => lists::list_back(&mut random),
+        68..86 => damaged_image_call(&mut random),
+        86..93 => notations::reading(&mut random),
+        _ => notations::writing(&mut random),
+    }
+}
+
+/// A call over an image that is damaged, most often, or has bytes before its first node.
+fn damaged_image_call(random: &mut Random) -> Call {
+    let grid = grid::any_grid(random);
+    let image = damage::damaged_image(random, &grid);
+    any_call_over(random, &grid, image)
+}
+
+fn largest_grid_call(random: &mut Random) -> Call {
+    let grid = grid::largest_grid(random);
+    let image = grid.image();
+    any_call_over(random, &grid, image)
+}
+
+/// The check or a list over an image, with fixes that suit the grid it was made from.
+fn any_call_over(random: &mut Random, grid: &Grid, image: Vec<u8>) -> Call {
+    match random.below(3) {
+        0 => Call::GridCheck { image },
+        1 => lists::list_over(random, Way::Out, grid, image),
+        _ => lists::list_over(random, Way::Back, grid, image),
+    }
+}

@@ -1,0 +1,117 @@
+//! Made-up values of nodes: constant, smooth, steep, rough, and at their limits.
+
+use crate::random::Random;
+use reference::{Node, Trailer};
+
+/// The limits of question 9: latitude correction, longitude correction, height.
+pub const LIMITS: [i64; 3] = [10_000_000, 10_000_000, 1_000_000];
+
+/// How the values of one kind lie over a grid.
+#[derive(Clone, Copy)]
+pub enum Manner {
+    /// The same everywhere.
+    Constant,
+    /// Steps that question 12 allows.
+    Smooth,
+    /// Steps of two hundredths to more than a whole spacing.
+    Steep,
+    /// Random in some reach.
+    Rough,
+    /// At and just below the limits.
+    Extreme,
+}
+
+pub fn any_manner(random: &mut Random) -> Manner {
+    random.pick(&[
+        Manner::Constant,
+        Manner::Smooth,
+        Manner::Steep,
+        Manner::Rough,
+        Manner::Rough,
+        Manner::Extreme,
+    ])
+}
+
+/// All nodes of a grid, the manner chosen for each of the three values.
+pub fn nodes(
+    random: &mut Random,
+    trailer: &Trailer,
+    mut manner: impl FnMut(&mut Random) -> Manner,
+) -> Vec<Node> {
+    let mut nodes = vec![[0; 3]; trailer.rows as usize * trailer.columns as usize];
+    for value in 0..3 {
+        let chosen = manner(random);
+        let plane = plane(random, trailer, value, chosen);
+        for (node, of_plane) in nodes.iter_mut().zip(plane) {
+            node[value] = of_plane.clamp(-LIMITS[value], LIMITS[value]) as i32;
+        }
+    }
+    nodes
+}
+
+/// One value at all nodes; what lies past the limits is cut off by the caller.
+fn plane(random: &mut Random, trailer: &Trailer, value: usize, manner: Manner) -> Vec<i64> {
+    let length = trailer.rows as usize * trailer.columns as usize;
+    let reach = reach(trailer, value);
+    let limit = LIMITS[value];
+    match manner {
+        Manner::Constant => {
+            let around = random.around_zero(reach);
+            let constant =
+                random.pick(&[0, 1, -1, 2, limit, -limit, around, around, around, around]);
+            vec![constant; length]
+        }
+        Manner::Smooth => {
+            let share = random.between(0, 100);
+            sum_of_walks(random, trailer, reach, [share, 100 - share])
+        }
+        Manner::Steep => {
+            let slope = 100 * random.pick(&[2, 5, 10, 20, 30, 50, 70, 90, 110]);
+            let slopes = random.pick(&[[slope, 0], [0, slope], [slope / 2, slope / 2]]);
+            sum_of_walks(random, trailer, reach, slopes)
+        }
+        Manner::Rough => {
+            let reach = random.pick(&[1, 2, 5, 100, reach, reach, limit]);
+            (0..length).map(|_| random.around_zero(reach)).collect()
+        }
+        Manner::Extreme => (0..length)
+            .map(|_| random.pick(&[limit, -limit, limit - 1, 1 - limit, 0]))
+            .collect(),
+    }
+}
+
+/// How large a value may be for a point in the middle half of the grid to stay in its bounds.
+fn reach(trailer: &Trailer, value: usize) -> i64 {
+    let extents = [
+        i64::from(trailer.rows - 1) * i64::from(trailer.latitude_spacing),
+        i64::from(trailer.columns - 1) * i64::from(trailer.longitude_spacing),
+        i64::MAX,
+    ];
+    LIMITS[value].min(extents[value] / 4)
+}
+
+/// A walk by row plus a walk by column; the slopes, in ten-thousandths, bound their steps.
+fn sum_of_walks(random: &mut Random, trailer: &Trailer, reach: i64, slopes: [i64; 2]) -> Vec<i64> {
+    let latitude_step = slopes[0] * i64::from(trailer.latitude_spacing) / 10_000;
+    let longitude_step = slopes[1] * i64::from(trailer.longitude_spacing) / 10_000;
+    let start = random.around_zero(reach);
+    let by_row = walk(random, trailer.rows, latitude_step, start);
+    let by_column = walk(random, trailer.columns, longitude_step, 0);
+    by_row
+        .iter()
+        .flat_map(|row| by_column.iter().map(move |column| row + column))
+        .collect()
+}
+
+/// Values along a line: the same step all along, or any step up to it.
+fn walk(random: &mut Random, length: u32, step: i64, start: i64) -> Vec<i64> {
+    let steady = random.chance(60).then(|| random.sign() * step);
+    let mut value = start;
+    (0..length)
+        .map(|_| {
+            let here = value;
+            value += steady.unwrap_or_else(|| random.around_zero(step));
+            here
+        })
+        .collect()
+}

@@ -1,0 +1,82 @@
+//! The built library libmarker.a as a converter, through its C interface.
+
+use crate::{Converter, Way};
+use reference::{Axis, Notation, Number};
+
+/// Declares the list calls, which are alike but for their names.
+macro_rules! list_calls {
+    ($($name:ident),*) => {
+        extern "C" {
+            $(fn $name(
+                image: *const u8,
+                image_length: usize,
+                fixes: *const i64,
+                fixes_length: usize,
+                answers: *mut i64,
+                answers_length: usize,
+            ) -> i64;)*
+        }
+    };
+}
+
+list_calls!(marker_list_out, marker_list_back);
+
+extern "C" {
+    fn marker_grid_check(image: *const u8, image_length: usize, findings: *mut i64) -> i64;
+    fn marker_read_notation(
+        longitude: bool,
+        degrees: u64,
+        minutes: u64,
+        hundred_thousandths: u64,
+        letter: u8,
+        nd: *mut i64,
+    ) -> i64;
+    fn marker_write_notation(longitude: bool, nd: i64, notation: *mut u64) -> i64;
+}
+
+/// The linked library.
+///
+/// Safety of its calls: each pointer comes from a slice or reference that lives through the call,
+/// with that slice's own length, and from a changeable one, so that even a wrong write inside it
+/// is a write that Rust allows.
+pub struct Library;
+
+impl Converter for Library {
+    fn grid_check(&self, image: &mut [u8], findings: &mut [i64; 6]) -> Number {
+        unsafe { marker_grid_check(image.as_mut_ptr(), image.len(), findings.as_mut_ptr()) }
+    }
+
+    fn list(&self, way: Way, image: &mut [u8], fixes: &mut [i64], answers: &mut [i64]) -> Number {
+        let list = match way {
+            Way::Out => marker_list_out,
+            Way::Back => marker_list_back,
+        };
+        unsafe {
+            list(
+                image.as_mut_ptr(),
+                image.len(),
+                fixes.as_mut_ptr(),
+                fixes.len(),
+                answers.as_mut_ptr(),
+                answers.len(),
+            )
+        }
+    }
+
+    fn read_notation(&self, axis: Axis, notation: Notation, nd: &mut i64) -> Number {
+        unsafe {
+            marker_read_notation(
+                axis == Axis::Longitude,
+                notation.degrees,
+                notation.minutes,
+                notation.hundred_thousandths,
+                notation.letter,
+                nd,
+            )
+        }
+    }
+
+    fn write_notation(&self, axis: Axis, nd: i64, notation: &mut [u64; 4]) -> Number {
+        unsafe { marker_write_notation(axis == Axis::Longitude, nd, notation.as_mut_ptr()) }
+    }
+}

@@ -1,0 +1,110 @@
+//! How a call and a difference are shown: short enough to read, and enough to replay.
+
+use crate::call::mark;
+use crate::{Call, Difference, Outcome};
+use reference::Trailer;
+use std::fmt::{self, Display, Formatter};
+
+/// An image is shown up to so many bytes, of its end.
+const SHOWN_BYTES: usize = 400;
+/// A list is shown up to so many of its rows.
+const SHOWN_ROWS: usize = 30;
+
+impl Display for Call {
+    fn fmt(&self, to: &mut Formatter) -> fmt::Result {
+        match self {
+            Call::GridCheck { image } => {
+                writeln!(to, "grid check")?;
+                show_image(to, image)
+            }
+            Call::List(list) => {
+                let (fixes, answers) = (list.fixes.len(), list.answers_length);
+                let lengths = format!("{fixes} fix numbers, {answers} answer numbers");
+                writeln!(to, "list {:?}: {lengths}", list.way)?;
+                show_image(to, &list.image)?;
+                show_rows(to, "fix", &list.fixes, 3)
+            }
+            Call::ReadNotation { axis, notation } => writeln!(to, "read {axis:?} {notation:?}"),
+            Call::WriteNotation { axis, nd } => writeln!(to, "write {axis:?} {nd}"),
+        }
+    }
+}
+
+/// The trailer's fields and the bytes, a node to a line.
+fn show_image(to: &mut Formatter, image: &[u8]) -> fmt::Result {
+    writeln!(to, "image of {} bytes", image.len())?;
+    if let Some(trailer) = Trailer::read(image) {
+        writeln!(to, "{trailer:?}")?;
+    }
+    let first = image.len().saturating_sub(SHOWN_BYTES);
+    if first > 0 {
+        writeln!(to, "its first {first} bytes are not shown")?;
+    }
+    let (nodes, trailer) = image[first..].split_at(image[first..].len().saturating_sub(40));
+    for line in nodes.rchunks(12).rev().chain([trailer]) {
+        let hex: Vec<String> = line.iter().map(|byte| format!("{byte:02x}")).collect();
+        writeln!(to, "  {}", hex.join(" "))?;
+    }
+    Ok(())
+}
+
+fn show_rows(to: &mut Formatter, name: &str, numbers: &[i64], width: usize) -> fmt::Result {
+    for (index, row) in numbers.chunks(width).take(SHOWN_ROWS).enumerate() {
+        writeln!(to, "{name} {index}: {row:?}")?;
+    }
+    let rows = numbers.len().div_ceil(width);
+    if rows > SHOWN_ROWS {
+        writeln!(to, "{} more not shown", rows - SHOWN_ROWS)?;
+    }
+    Ok(())
+}
+
+impl Outcome {
+    /// What stands in the memory lent for values, five numbers to a row, and a word for each
+    /// number that the call left alone.
+    pub fn rows(&self) -> impl Iterator<Item = String> {
+        let words = self.written.iter().enumerate().map(|(index, number)| {
+            if *number == mark(index) {
+                "unchanged".to_string()
+            } else {
+                number.to_string()
+            }
+        });
+        let words: Vec<String> = words.collect();
+        (0..words.len().div_ceil(5)).map(move |row| {
+            let end = words.len().min(5 * row + 5);
+            words[5 * row..end].join(" ")
+        })
+    }
+}
+
+impl Display for Outcome {
+    fn fmt(&self, to: &mut Formatter) -> fmt::Result {
+        write!(to, "number {}", self.number)?;
+        if !self.rest_unchanged {
+            write!(
+                to,
+                ", wrote to what it may only read or beside what it was lent"
+            )?;
+        }
+        Ok(())
+    }
+}
+
+impl Display for Difference {
+    fn fmt(&self, to: &mut Formatter) -> fmt::Result {
+        writeln!(to, "difference in case {}:{}", self.seed, self.index)?;
+        write!(to, "{}", self.call)?;
+        writeln!(to, "expected {}", self.expected)?;
+        writeln!(to, "found    {}", self.found)?;
+        let (expected, found) = (self.expected.rows(), self.found.rows());
+        for (index, (expected, found)) in expected.zip(found).enumerate() {
+            if expected != found {
+                writeln!(to, "answer {index}: expected {expected}")?;
+                writeln!(to, "answer {index}: found    {found}")?;
+            }
+        }
+        let case = format!("{}:{}", self.seed, self.index);
+        writeln!(to, "replay with: compare --replay {case}")
+    }
+}

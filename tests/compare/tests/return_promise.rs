@@ -1,0 +1,96 @@
+//! The return promise, demand 3, tried with the reference on made-up grids that pass the check.
+
+use compare::{cases, Call, Random};
+use reference::{grid_check, open_image, way_back, way_out, Answer, Fix, Image, Point};
+
+const SEED: u64 = 11;
+
+/// A point at least so far inside all four bounds, if there is one.
+fn point_inside(random: &mut Random, image: &Image, depth: i128) -> Option<Point> {
+    let mut angle = |low: i128, high: i128| {
+        let (low, high) = (low + depth, high - depth);
+        let edge = random.pick(&[Some(low), Some(high), None, None]);
+        let inner = (low <= high).then(|| random.between(low as i64, high as i64))?;
+        Some(edge.unwrap_or(inner.into()))
+    };
+    Some(Point {
+        latitude: angle(image.south, image.north())?,
+        longitude: angle(image.west, image.east())?,
+    })
+}
+
+/// The larger of the two angles' differences.
+fn distance(one: Point, other: Point) -> u128 {
+    let latitude = one.latitude.abs_diff(other.latitude);
+    latitude.max(one.longitude.abs_diff(other.longitude))
+}
+
+fn fix_of(answer: Answer) -> Fix {
+    Fix {
+        point: answer.point,
+        height: answer.height,
+    }
+}
+
+/// "Every fix at least 10,000,000 nd inside all four bounds, height in limits".
+fn try_out_and_back(image: &Image, fix: Fix) {
+    let out = way_out(image, fix).expect("answered going out");
+    assert!((1..=5).contains(&out.count));
+    let back = way_back(image, fix_of(out)).expect("taken back");
+    assert!(distance(back.point, fix.point) <= 1);
+    assert_eq!(back.height, fix.height);
+    // "Every other Bessel point in the bounds that also goes back to within 1 nd of the fix in
+    // both angles lies within 3 nd of the way out's answer in each angle."
+    for latitude in -6..=6 {
+        for longitude in -6..=6 {
+            let other = Point {
+                latitude: out.point.latitude + latitude,
+                longitude: out.point.longitude + longitude,
+            };
+            let goes_back = way_back(
+                image,
+                Fix {
+                    point: other,
+                    ..fix
+                },
+            );
+            let near = goes_back.is_ok_and(|back| distance(back.point, fix.point) <= 1);
+            assert!(!near || distance(other, out.point) <= 3);
+        }
+    }
+}
+
+/// "Every Bessel point at least 20,000,000 nd inside all four bounds, with NAP height within
+/// 99,000,000 units of zero".
+fn try_back_and_out(image: &Image, bessel: Fix) {
+    let back = way_back(image, bessel).expect("answered going back");
+    let out = way_out(image, fix_of(back)).expect("taken out");
+    assert!(distance(out.point, bessel.point) <= 2);
+    assert!(out.height.abs_diff(bessel.height) <= 1);
+}
+
+#[test]
+fn every_grid_that_passes_the_check_keeps_the_return_promise() {
+    let mut trips = 0;
+    for index in 0..20_000 {
+        let Call::GridCheck { image } = cases::call(SEED, index) else {
+            continue;
+        };
+        if grid_check(&image).is_err() {
+            continue;
+        }
+        let image = open_image(&image).expect("checked");
+        let mut random = Random::for_case(SEED + 1, index);
+        for _ in 0..10 {
+            let height = random.around_zero(99_000_000).into();
+            if let Some(point) = point_inside(&mut random, &image, 10_000_000) {
+                try_out_and_back(&image, Fix { point, height });
+                trips += 1;
+            }
+            if let Some(point) = point_inside(&mut random, &image, 20_000_000) {
+                try_back_and_out(&image, Fix { point, height });
+            }
+        }
+    }
+    assert!(trips > 1_000, "{trips}");
+}

@@ -1,0 +1,43 @@
+//! The independent reference: document 01 said once more, over whole-number fractions.
+//!
+//! It is written from the paper's words alone and shares no code and no constants with
+//! `crates/`. It is meant to be read beside the paper, not to be fast. Every public function
+//! answers either its values or the paper's number.
+
+mod check;
+mod fraction;
+mod image;
+mod lists;
+mod lookup;
+mod notation;
+mod ways;
+
+pub use check::grid_check;
+pub use fraction::Fraction;
+pub use image::{open_image, write_image, Image, Node, Trailer};
+pub use lists::{convert_list, list_back, list_out};
+pub use lookup::{exact_values, lookup, Place, Point};
+pub use notation::{read_notation, write_notation, Axis, Notation};
+pub use ways::{
+    fix_questions, way_back, way_out, Answer, Fix, BACK_HEIGHT_LIMIT, OUT_HEIGHT_LIMIT,
+};
+
+/// The number of a question whose answer is no, 1 to 14.
+pub type Number = i64;
+
+/// "An nd is 10^-9 degree": a whole degree in nd.
+pub const DEGREE: i128 = 1_000_000_000;
+
+/// "A "no" gives the number."
+pub(crate) fn ask(yes: bool, number: Number) -> Result<(), Number> {
+    if yes {
+        Ok(())
+    } else {
+        Err(number)
+    }
+}
+
+/// Is the value no further than the limit from zero?
+pub(crate) fn within(value: i128, limit: i128) -> bool {
+    -limit <= value && value <= limit
+}

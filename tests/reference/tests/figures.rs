@@ -1,0 +1,175 @@
+//! Every figure of document 01's "Grid G and its figures" on images, starred and unstarred, and
+//! the figure of its first slip, each by name.
+
+mod common;
+
+use common::{fix_at, g_node, grid_g, image_of, point_at, G_TRAILER};
+use reference::{grid_check, lookup, open_image, way_back, way_out, Answer, Fix, Number};
+
+type Way = fn(&reference::Image, Fix) -> Result<Answer, Number>;
+
+fn convert(way: Way, image: &[u8], fix: Fix) -> Result<Answer, Number> {
+    way(&open_image(image)?, fix)
+}
+
+/// G with other latitude corrections by row.
+fn g_with_latitude_corrections(by_row: [i32; 3]) -> Vec<u8> {
+    image_of(&G_TRAILER, |row, column| {
+        let [_, longitude, height] = g_node(row, column);
+        [by_row[row as usize], longitude, height]
+    })
+}
+
+fn answer(latitude: i64, longitude: i64, height: i64, count: i128) -> Result<Answer, Number> {
+    let fix = fix_at(latitude, longitude, height);
+    Ok(Answer {
+        point: fix.point,
+        height: fix.height,
+        count,
+    })
+}
+
+#[test]
+fn g_has_148_bytes() {
+    assert_eq!(grid_g().len(), 148);
+}
+
+#[test]
+fn starred_back_500_500_gives_602_450_height_440003_count_1() {
+    let answered = convert(way_back, &grid_g(), fix_at(500, 500, 10_000));
+    assert_eq!(answered, answer(602, 450, 440_003, 1));
+}
+
+#[test]
+fn starred_out_602_450_gives_500_500_height_10000_count_2() {
+    let answered = convert(way_out, &grid_g(), fix_at(602, 450, 440_003));
+    assert_eq!(answered, answer(500, 500, 10_000, 2));
+}
+
+#[test]
+fn starred_back_2000_2000_gives_2108_1950_height_430010() {
+    let answered = convert(way_back, &grid_g(), fix_at(2_000, 2_000, 0));
+    assert_eq!(answered, answer(2_108, 1_950, 430_010, 1));
+}
+
+#[test]
+fn starred_back_2001_2000_gives_8() {
+    let answered = convert(way_back, &grid_g(), fix_at(2_001, 2_000, 0));
+    assert_eq!(answered, Err(8));
+}
+
+#[test]
+fn starred_back_125_0_has_latitude_correction_101() {
+    let image = grid_g();
+    let values = lookup(&open_image(&image).unwrap(), point_at(125, 0)).unwrap();
+    assert_eq!(values[0], 101);
+    let answered = convert(way_back, &image, fix_at(125, 0, 0));
+    assert_eq!(answered, answer(125 + 101, -50, 430_000, 1));
+}
+
+/// G "with longitude correction −100 − column": the one looked up on the southern bound.
+fn sloping_longitude_correction(longitude: i64) -> i128 {
+    let image = image_of(&G_TRAILER, |row, column| {
+        let [latitude, _, height] = g_node(row, column);
+        [latitude, -100 - column, height]
+    });
+    lookup(&open_image(&image).unwrap(), point_at(0, longitude)).unwrap()[1]
+}
+
+#[test]
+fn starred_sloping_longitude_corrections_at_0_500_give_minus_100() {
+    assert_eq!(sloping_longitude_correction(500), -100);
+}
+
+#[test]
+fn starred_sloping_longitude_corrections_at_0_700_give_minus_101() {
+    assert_eq!(sloping_longitude_correction(700), -101);
+}
+
+#[test]
+fn starred_out_50_500_gives_10() {
+    assert_eq!(convert(way_out, &grid_g(), fix_at(50, 500, 0)), Err(10));
+}
+
+#[test]
+fn out_2050_500_gives_8() {
+    assert_eq!(convert(way_out, &grid_g(), fix_at(2_050, 500, 0)), Err(8));
+}
+
+/// G with "latitude corrections 0, 1000, 2000 by row, longitude corrections 0".
+fn steep_grid() -> Vec<u8> {
+    image_of(&G_TRAILER, |row, column| {
+        [1_000 * row, 0, g_node(row, column)[2]]
+    })
+}
+
+#[test]
+fn starred_steep_grid_out_1500_500_gives_11() {
+    let answered = convert(way_out, &steep_grid(), fix_at(1_500, 500, 0));
+    assert_eq!(answered, Err(11));
+}
+
+#[test]
+fn starred_steep_grid_check_gives_12() {
+    assert_eq!(grid_check(&steep_grid()), Err(12));
+}
+
+#[test]
+fn starred_100_110_120_out_602_450_gives_497_500_height_10000_count_2() {
+    let image = g_with_latitude_corrections([100, 110, 120]);
+    let answered = convert(way_out, &image, fix_at(602, 450, 440_003));
+    assert_eq!(answered, answer(497, 500, 10_000, 2));
+}
+
+#[test]
+fn slip_100_110_120_single_subtraction_at_the_etrs89_point_gives_496() {
+    let image = g_with_latitude_corrections([100, 110, 120]);
+    let image = open_image(&image).unwrap();
+    let etrs89 = fix_at(602, 450, 440_003).point;
+    let correction = lookup(&image, etrs89).unwrap()[0];
+    assert_eq!(etrs89.latitude - correction, point_at(496, 0).latitude);
+}
+
+#[test]
+fn slip_on_g_single_subtraction_differs_only_in_its_count() {
+    let image = grid_g();
+    let image = open_image(&image).unwrap();
+    let etrs89 = fix_at(602, 450, 440_003).point;
+    let [latitude, longitude, _] = lookup(&image, etrs89).unwrap();
+    let bessel = point_at(500, 500);
+    assert_eq!(etrs89.latitude - latitude, bessel.latitude);
+    assert_eq!(etrs89.longitude - longitude, bessel.longitude);
+}
+
+#[test]
+fn latitude_corrections_100_110_120_pass_the_check() {
+    let image = g_with_latitude_corrections([100, 110, 120]);
+    assert_eq!(grid_check(&image), Ok([10, 0, 0, 0, 0, 5]));
+}
+
+#[test]
+fn latitude_corrections_100_111_122_give_12() {
+    let image = g_with_latitude_corrections([100, 111, 122]);
+    assert_eq!(grid_check(&image), Err(12));
+}
+
+#[test]
+fn one_node_with_correction_10000001_gives_9() {
+    for value in 0..2 {
+        for bad in 0..9 {
+            let image = image_of(&G_TRAILER, |row, column| {
+                let mut node = g_node(row, column);
+                if 3 * row + column == bad {
+                    node[value] = 10_000_001;
+                }
+                node
+            });
+            assert_eq!(grid_check(&image), Err(9));
+        }
+    }
+}
+
+#[test]
+fn gridcheck_of_g_passed_4_0_0_0_0_5() {
+    assert_eq!(grid_check(&grid_g()), Ok([4, 0, 0, 0, 0, 5]));
+}
