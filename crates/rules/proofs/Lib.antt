@@ -2,3 +2,5 @@
 pub mod Opening
 pub mod Cells
 pub mod Limits
+pub mod Over
+pub mod Slopes

@@ -1,0 +1,80 @@
+-- The walk over all rows finds the largest steps: each of the six is a fold of `max` over the nodes, and setting a node beside the one before it,
+-- the first beside itself, gives the steps from each to the next.
+use mathlib.Core.List.{List}
+use mathlib.Core.Path.{_≡_, refl, ap, _∙_}
+use Prim.Native.Nat.{ℕ, zero, suc, _+_, _-_, max}
+use native.Mathlib.Numerals.{add-one}
+use native.Mathlib.Omega.{arith}
+use lib.IntN.{ℤ, natAbs, _-ℤ_}
+use Rattle.integers.specs.Difference.{var, _⊖_}
+use Rattle.integers.specs.Distance.{abs-is}
+use Rattle.rules.specs.declared.Geometry.{Geometry}
+use Rattle.rules.specs.declared.Node.{Node}
+use Rattle.rules.specs.declared.Findings.{Findings}
+use Rattle.rules.specs.Image.{Grid, nodeAt, rows, columns}
+use Rattle.rules.specs.Check.{largest, stepNorth, stepEast, stepsOf, findingsOf}
+use Rattle.rules.proofs.Over.{largest-none, largest-steps}
+use Rattle.slopes.specs.Walk.{nothing, raised, widened, turns, along}
+
+-- One more turn.
+pub turns-more : {A : Type 0} (n : ℕ) (step : ℕ → A → A) (a : A) → step n (turns n step a) ≡ turns (n + 1) step a
+unfolding turns
+turns-more n step a = rw add-one
+
+pub along-more : (south row : ℕ → Node) (n : ℕ) (found : Findings)
+    → widened (along south row n found) (row n) (row (n - 1)) (south n) ≡ along south row (n + 1) found
+unfolding along
+along-more south row n found = turns-more n _ found
+
+-- A number that each turn raises to at least f of the turn ends as the larger of the first and the largest f.
+turns-largest : {A : Type 0} (size : A → ℕ) (f : ℕ → ℕ) (step : ℕ → A → A) → ((n : ℕ) (a : A) → size (step n a) ≡ max (size a) (f n))
+    → (n : ℕ) (a : A) → size (turns n step a) ≡ max (size a) (largest n f)
+unfolding turns largest
+turns-largest size f step h zero a = omega arith
+turns-largest size f step h (suc n) a = h n (turns n step a) ∙ omega (arith, turns-largest size f step h n a)
+
+-- The walk over the first rows of a grid.
+unfoldable pub overRows : Grid → ℕ → Findings
+overRows g n = turns n (λ row. along (nodeAt g (row - 1)) (nodeAt g row) (columns (g .geometry))) nothing
+
+pub rows-more : (g : Grid) (n : ℕ) → along (nodeAt g (n - 1)) (nodeAt g n) (columns (g .geometry)) (overRows g n) ≡ overRows g (n + 1)
+unfolding overRows
+rows-more g n = turns-more n _ nothing
+
+module _ (g : Geometry) (f : ℕ → ℕ → ℤ) where
+  still : (x : ℤ) → natAbs (x -ℤ x) ≡ 0
+  still x = omega (arith, abs-is (var x ⊖ var x))
+
+  north-steps : largest (rows g) (λ row. largest (columns g) (λ column. natAbs (f row column -ℤ f (row - 1) column))) ≡ stepNorth g f
+  unfolding stepNorth
+  north-steps = largest-steps (λ i j. largest (columns g) (λ column. natAbs (f i column -ℤ f j column))) (λ i. largest-none (columns g) _ (λ column. still (f i column))) (rows g)
+
+  east-steps : largest (rows g) (λ row. largest (columns g) (λ column. natAbs (f row column -ℤ f row (column - 1)))) ≡ stepEast g f
+  unfolding stepEast
+  east-steps = ap (largest (rows g)) (λ i row. largest-steps (λ i j. natAbs (f row i -ℤ f row j)) (λ i. still (f row i)) (columns g) i)
+
+-- One of the six numbers.
+walked : (g : Grid) (size : Findings → ℕ) (step : ℕ → ℕ → ℕ) → size nothing ≡ 0
+    → ((row column : ℕ) (found : Findings) → size (widened found (nodeAt g row column) (nodeAt g row (column - 1)) (nodeAt g (row - 1) column)) ≡ max (size found) (step row column))
+    → size (overRows g (rows (g .geometry))) ≡ largest (rows (g .geometry)) (λ row. largest (columns (g .geometry)) (step row))
+unfolding overRows along
+walked g size step z h =
+    turns-largest size _ _ (λ row a. turns-largest size (step row) _ (λ column. h row column) (columns (g .geometry)) a) (rows (g .geometry)) nothing
+    ∙ omega (arith, z)
+
+pub found-all : (g : Grid) → overRows g (rows (g .geometry)) ≡ findingsOf g
+unfolding findingsOf stepsOf widened raised
+found-all g = λ i. record {
+  latitude = record {
+    north = (walked g (λ f. f .latitude .north) _ refl (λ _ _ _. refl) ∙ north-steps (g .geometry) (g .latitude)) i;
+    east = (walked g (λ f. f .latitude .east) _ refl (λ _ _ _. refl) ∙ east-steps (g .geometry) (g .latitude)) i;
+  };
+  longitude = record {
+    north = (walked g (λ f. f .longitude .north) _ refl (λ _ _ _. refl) ∙ north-steps (g .geometry) (g .longitude)) i;
+    east = (walked g (λ f. f .longitude .east) _ refl (λ _ _ _. refl) ∙ east-steps (g .geometry) (g .longitude)) i;
+  };
+  height = record {
+    north = (walked g (λ f. f .height .north) _ refl (λ _ _ _. refl) ∙ north-steps (g .geometry) (g .height)) i;
+    east = (walked g (λ f. f .height .east) _ refl (λ _ _ _. refl) ∙ east-steps (g .geometry) (g .height)) i;
+  };
+}

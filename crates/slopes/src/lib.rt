@@ -1,0 +1,177 @@
+// The grid check: questions 1 to 6, then one walk over all nodes that puts question 9 and keeps the largest steps, then question 12.
+use image::open;
+use nodes::node_of;
+use nodes::node_passes;
+use nodes::row_start;
+use numbers::magnitude;
+use rules::Checked;
+use rules::Findings;
+use rules::Geometry;
+use rules::Node;
+use rules::Opened;
+use rules::Refusal;
+use rules::Steps;
+ghost use mathlib.Core.Path.{_≡_};
+ghost use Prim.Native.Nat.{_*_, _≤_, _<_, max};
+ghost use lib.IntN.{natAbs};
+ghost use lib.ListN.{length};
+ghost use Rattle.rules.specs.Answers.{checkedOf};
+ghost use Rattle.rules.specs.Image.{gridOf};
+ghost use Rattle.rules.specs.Questions.{Sized, Open};
+ghost use Rattle.rules.specs.Check.{allPass, gentle, question12, findingsOf, check, gridCheck};
+ghost use Rattle.slopes.specs.Walk.{walkOf, Narrow, StepsWithin, FindingsWithin, nothing, raised, widened, rowPasses, rowFindings};
+
+// What a walk over nodes finds: all are within question 9's limits, with the largest steps so far; or one is beyond them.
+pub enum Walk {
+    Within(Findings),
+    Beyond,
+}
+
+// The grid check of any image.
+pub fn grid_check(image: &[u8]) -> Checked
+    ensures { λ r. ⌜ checkedOf r ≡ gridCheck (now (image .entry)) ⌝ }
+{
+    match open(image) {
+        Opened::Refused(r) => Checked::Refused(r),
+        Opened::Grid(g) => check_nodes(image, g),
+    }
+}
+
+// Questions 9 and 12 of an opened image.
+fn check_nodes(image: &[u8], g: Geometry) -> Checked
+    requires { ⌜ Open (length (now image)) g ⌝ }
+    ensures { λ r. ⌜ checkedOf r ≡ check (gridOf (now (image .entry)) g) ⌝ }
+{
+    match walk_grid(image, g) {
+        Walk::Beyond => Checked::Refused(Refusal::NodeLimits),
+        Walk::Within(found) => {
+            if all_gentle(g, found) {
+                Checked::Passed(found)
+            } else {
+                Checked::Refused(Refusal::Slope)
+            }
+        }
+    }
+}
+
+// The rows from south to north. The first row stands as its own southern neighbour: its steps north are 0, which changes no maximum.
+fn walk_grid(image: &[u8], g: Geometry) -> Walk
+    requires { ⌜ Open (length (now image)) g ⌝ }
+    ensures { λ r. ⌜ r ≡ walkOf (allPass (gridOf (now (image .entry)) g)) (findingsOf (gridOf (now (image .entry)) g)) ⌝ }
+{
+    let size = image.len() as u64;
+    let rows = g.latitude.count;
+    let columns = g.longitude.count;
+    let mut found = no_steps();
+    let mut south = row_start(size, g, 0) as usize;
+    let mut row: u64 = 0;
+    while row < rows {
+        let start = row_start(size, g, row) as usize;
+        match walk_row(&image[south..], &image[start..], columns, found) {
+            Walk::Beyond => {
+                return Walk::Beyond;
+            }
+            Walk::Within(f) => {
+                found = f;
+            }
+        }
+        south = start;
+        row += 1;
+    }
+    Walk::Within(found)
+}
+
+// A row from west to east, with the row to its south. The first node stands as its own western neighbour, as the first row does above.
+fn walk_row(south: &[u8], row: &[u8], columns: u64, before: Findings) -> Walk
+    requires { ⌜ (1 ≤ columns) × (12 * columns ≤ length (now south)) × (12 * columns ≤ length (now row)) ⌝ }
+    ensures { λ r. ⌜ r ≡ walkOf (rowPasses (now (row .entry)) columns) (rowFindings (now (south .entry)) (now (row .entry)) columns before) ⌝ }
+{
+    let mut found = before;
+    let mut west = node_of(row, 0);
+    let mut column: u64 = 0;
+    while column < columns {
+        let here = node_of(row, column);
+        if !node_passes(here) {
+            return Walk::Beyond;
+        }
+        found = widen(found, here, west, node_of(south, column));
+        west = here;
+        column += 1;
+    }
+    Walk::Within(found)
+}
+
+// The largest steps of no nodes.
+fn no_steps() -> Findings
+    ensures { λ r. ⌜ r ≡ nothing ⌝ }
+{
+    let none = Steps { north: 0, east: 0 };
+    Findings {
+        latitude: none,
+        longitude: none,
+        height: none,
+    }
+}
+
+// The largest steps with those to one more node, from its western and its southern neighbour.
+fn widen(found: Findings, here: Node, west: Node, south: Node) -> Findings
+    requires { ⌜ Narrow here × Narrow west × Narrow south ⌝ }
+    ensures { λ r. ⌜ r ≡ widened found here west south ⌝ }
+{
+    let a = found.latitude;
+    let b = found.longitude;
+    let c = found.height;
+    let latitude = raise(a, here.latitude, west.latitude, south.latitude);
+    let longitude = raise(b, here.longitude, west.longitude, south.longitude);
+    let height = raise(c, here.height, west.height, south.height);
+    Findings {
+        latitude,
+        longitude,
+        height,
+    }
+}
+
+// The same of one value.
+fn raise(found: Steps, here: i64, west: i64, south: i64) -> Steps
+    requires { ⌜ (natAbs here ≤ 2147483648) × (natAbs west ≤ 2147483648) × (natAbs south ≤ 2147483648) ⌝ }
+    ensures { λ r. ⌜ r ≡ raised found here west south ⌝ }
+{
+    let north = larger(found.north, magnitude(here - south));
+    let east = larger(found.east, magnitude(here - west));
+    Steps { north, east }
+}
+
+fn larger(a: u64, b: u64) -> u64
+    ensures { λ r. ⌜ r ≡ max a b ⌝ }
+{
+    if a < b { b } else { a }
+}
+
+// Question 12. The steps are small since question 9 has passed.
+fn all_gentle(g: Geometry, f: Findings) -> bool
+    requires { ⌜ Sized (g .latitude) × Sized (g .longitude) × FindingsWithin 20000000 f ⌝ }
+    ensures { λ r. ⌜ r ≡ question12 g f ⌝ }
+{
+    let latitude = f.latitude;
+    let longitude = f.longitude;
+    let height = f.height;
+    if is_gentle(g, latitude) {
+        if is_gentle(g, longitude) {
+            is_gentle(g, height)
+        } else {
+            false
+        }
+    } else {
+        false
+    }
+}
+
+// The same of one value: its steps per spacing come to at most a hundredth.
+fn is_gentle(g: Geometry, s: Steps) -> bool
+    requires { ⌜ Sized (g .latitude) × Sized (g .longitude) × StepsWithin 20000000 s ⌝ }
+    ensures { λ r. ⌜ r ≡ gentle g s ⌝ }
+{
+    let p = g.latitude.spacing;
+    let q = g.longitude.spacing;
+    100 * (s.north * q + s.east * p) <= p * q
+}
