@@ -1,8 +1,8 @@
 -- The walk over all rows finds the largest steps: each of the six is a fold of `max` over the nodes, and setting a node beside the one before it,
 -- the first beside itself, gives the steps from each to the next.
-use mathlib.Core.List.{List}
+use mathlib.Core.Bool.{true}
 use mathlib.Core.Path.{_≡_, refl, ap, _∙_}
-use Prim.Native.Nat.{ℕ, zero, suc, _+_, _-_, max}
+use Prim.Native.Nat.{ℕ, zero, suc, _+_, _-_, _≤_, _<_, max}
 use native.Mathlib.Numerals.{add-one}
 use native.Mathlib.Omega.{arith}
 use lib.IntN.{ℤ, natAbs, _-ℤ_}
@@ -12,9 +12,11 @@ use Rattle.rules.specs.declared.Geometry.{Geometry}
 use Rattle.rules.specs.declared.Node.{Node}
 use Rattle.rules.specs.declared.Findings.{Findings}
 use Rattle.rules.specs.Image.{Grid, nodeAt, rows, columns}
-use Rattle.rules.specs.Check.{largest, stepNorth, stepEast, stepsOf, findingsOf}
+use Rattle.rules.specs.Check.{allPass, largest, stepNorth, stepEast, stepsOf, findingsOf}
 use Rattle.rules.proofs.Over.{largest-none, largest-steps}
-use Rattle.slopes.specs.Walk.{nothing, raised, widened, turns, along}
+use Rattle.rules.proofs.Limits.{node-within}
+use Rattle.rules.proofs.Slopes.{all-pass-at, north-most, east-most}
+use Rattle.slopes.specs.Walk.{StepsWithin, FindingsWithin, nothing, raised, widened, turns, along}
 
 -- One more turn.
 pub turns-more : {A : Type 0} (n : ℕ) (step : ℕ → A → A) (a : A) → step n (turns n step a) ≡ turns (n + 1) step a
@@ -78,3 +80,17 @@ found-all g = λ i. record {
     east = (walked g (λ f. f .height .east) _ refl (λ _ _ _. refl) ∙ east-steps (g .geometry) (g .height)) i;
   };
 }
+
+-- After question 9 each of the six is at most twice the limit of a correction.
+steps-small : (g : Geometry) (f : ℕ → ℕ → ℤ) → ((row column : ℕ) → row < rows g → column < columns g → natAbs (f row column) ≤ 10000000) → StepsWithin 20000000 (stepsOf g f)
+unfolding stepsOf
+steps-small g f h = record { north-most = north-most g f 10000000 h; east-most = east-most g f 10000000 h }
+
+pub found-small : (g : Grid) → allPass g ≡ true → FindingsWithin 20000000 (findingsOf g)
+unfolding findingsOf
+found-small g h =
+    record {
+      latitude-most = steps-small (g .geometry) (g .latitude) (λ row column i j. node-within _ (all-pass-at g h row column i j) .latitude);
+      longitude-most = steps-small (g .geometry) (g .longitude) (λ row column i j. node-within _ (all-pass-at g h row column i j) .longitude);
+      height-most = steps-small (g .geometry) (g .height) (λ row column i j. omega (arith, node-within _ (all-pass-at g h row column i j) .height));
+    }

@@ -93,8 +93,7 @@ loop-again c =
     let w = c .before .before .before in
     let l = w .before .before .before .before .before .loop in
     let e : l .row + 1 - 1 ≡ l .row = omega arith in
-    let h = within-limits _ _ _ (sym (row-found w) ∙ c .before .f .given .1) in
-    (
+    let h = within-limits _ _ _ (sym (row-found w) ∙ c .before .f .given .1) in (
       omega arith,
       rw e (w .before .before .before .row-start2 .ensures),
       every-more _ _ (l .inv .2) (h .0),
