@@ -7,20 +7,13 @@ use native.Mathlib.Omega.{arith}
 use lib.ListN.{length, take, drop}
 use Rattle.rules.specs.declared.Geometry.{Geometry}
 use Rattle.rules.specs.declared.Findings.{Findings}
-use Rattle.rules.specs.Image.{Grid, gridOf, nodeAt, columns}
+use Rattle.rules.specs.Image.{gridOf, columns}
 use Rattle.rules.specs.Lookup.{nodePasses}
 use Rattle.rules.specs.Check.{every}
 use Rattle.nodes.specs.Cell.{rowStart}
 use Rattle.nodes.proofs.Parts.{node-in-row}
 use Rattle.slopes.specs.declared.Walk.the-variants.{Within, Beyond}
-use Rattle.slopes.specs.Walk.{walkOf, along, rowPasses, rowFindings}
-
--- Question 9 of a row of a grid, and its steps beside those before it.
-abbrev pub passesAt : Grid → ℕ → Bool
-passesAt g row = every (columns (g .geometry)) (λ column. nodePasses (nodeAt g row column))
-
-abbrev pub stepsAt : Grid → ℕ → Findings → Findings
-stepsAt g row = along (nodeAt g (row - 1)) (nodeAt g row) (columns (g .geometry))
+use Rattle.slopes.specs.Walk.{walkOf, along, rowPasses, rowFindings, passesAt, stepsAt}
 
 -- The part of an image that begins at a row's first node.
 abbrev pub partAt : List ℕ → Geometry → ℕ → List ℕ

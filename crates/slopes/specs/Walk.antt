@@ -7,6 +7,7 @@ use lib.IntN.{ℤ, natAbs, _-ℤ_}
 use Rattle.rules.specs.declared.Node.{Node}
 use Rattle.rules.specs.declared.Steps.{Steps}
 use Rattle.rules.specs.declared.Findings.{Findings}
+use Rattle.rules.specs.Image.{Grid, nodeAt, columns}
 use Rattle.rules.specs.Lookup.{nodePasses}
 use Rattle.rules.specs.Check.{every}
 use Rattle.nodes.specs.Cell.{nodeOf}
@@ -56,6 +57,13 @@ rowFindings south row = along (nodeOf south) (nodeOf row)
 -- Question 9 of the nodes of a row.
 abbrev pub rowPasses : (row : List ℕ) (columns : ℕ) → Bool
 rowPasses row columns = every columns (λ column. nodePasses (nodeOf row column))
+
+-- Question 9 of a row of a grid, and its steps beside those before it.
+abbrev pub passesAt : Grid → ℕ → Bool
+passesAt g row = every (columns (g .geometry)) (λ column. nodePasses (nodeAt g row column))
+
+abbrev pub stepsAt : Grid → ℕ → Findings → Findings
+stepsAt g row = along (nodeAt g (row - 1)) (nodeAt g row) (columns (g .geometry))
 
 -- A node's values, read from the image, have 32 bits: their differences fit.
 pub record Narrow (n : Node) : Type 0 where

@@ -12,14 +12,14 @@ use rules::Opened;
 use rules::Refusal;
 use rules::Steps;
 ghost use mathlib.Core.Path.{_≡_};
-ghost use Prim.Native.Nat.{_*_, _≤_, _<_, max};
+ghost use Prim.Native.Nat.{_-_, _*_, _≤_, _<_, max};
 ghost use lib.IntN.{natAbs};
 ghost use lib.ListN.{length};
 ghost use Rattle.rules.specs.Answers.{checkedOf};
-ghost use Rattle.rules.specs.Image.{gridOf};
+ghost use Rattle.rules.specs.Image.{rows, gridOf};
 ghost use Rattle.rules.specs.Questions.{Sized, Open};
 ghost use Rattle.rules.specs.Check.{allPass, gentle, question12, findingsOf, check, gridCheck};
-ghost use Rattle.slopes.specs.Walk.{walkOf, Narrow, StepsWithin, FindingsWithin, nothing, raised, widened, rowPasses, rowFindings};
+ghost use Rattle.slopes.specs.Walk.{walkOf, Narrow, StepsWithin, FindingsWithin, nothing, raised, widened, rowPasses, rowFindings, passesAt, stepsAt};
 
 // What a walk over nodes finds: all are within question 9's limits, with the largest steps so far; or one is beyond them.
 pub enum Walk {
@@ -54,20 +54,16 @@ fn check_nodes(image: &[u8], g: Geometry) -> Checked
     }
 }
 
-// The rows from south to north. The first row stands as its own southern neighbour: its steps north are 0, which changes no maximum.
+// The rows in turn.
 fn walk_grid(image: &[u8], g: Geometry) -> Walk
     requires { ⌜ Open (length (now image)) g ⌝ }
     ensures { λ r. ⌜ r ≡ walkOf (allPass (gridOf (now (image .entry)) g)) (findingsOf (gridOf (now (image .entry)) g)) ⌝ }
 {
-    let size = image.len() as u64;
-    let rows = g.latitude.count;
-    let columns = g.longitude.count;
+    let count = g.latitude.count;
     let mut found = no_steps();
-    let mut south = row_start(size, g, 0) as usize;
     let mut row: u64 = 0;
-    while row < rows {
-        let start = row_start(size, g, row) as usize;
-        match walk_row(&image[south..], &image[start..], columns, found) {
+    while row < count {
+        match walk_at(image, g, row, found) {
             Walk::Beyond => {
                 return Walk::Beyond;
             }
@@ -75,10 +71,27 @@ fn walk_grid(image: &[u8], g: Geometry) -> Walk
                 found = f;
             }
         }
-        south = start;
         row += 1;
     }
     Walk::Within(found)
+}
+
+// A row and the one to its south. The first row stands as its own southern neighbour: its steps are 0, which changes no maximum.
+fn walk_at(image: &[u8], g: Geometry, row: u64, found: Findings) -> Walk
+    requires { ⌜ Open (length (now image)) g × (row < rows g) ⌝ }
+    ensures { λ r. ⌜ r ≡ walkOf (passesAt (gridOf (now (image .entry)) g) row) (stepsAt (gridOf (now (image .entry)) g) row found) ⌝ }
+{
+    let size = image.len() as u64;
+    let south = row_start(size, g, previous(row)) as usize;
+    let start = row_start(size, g, row) as usize;
+    walk_row(&image[south..], &image[start..], g.longitude.count, found)
+}
+
+// The row before, of the first row itself.
+fn previous(row: u64) -> u64
+    ensures { λ r. ⌜ r ≡ row - 1 ⌝ }
+{
+    if row == 0 { 0 } else { row - 1 }
 }
 
 // A row from west to east, with the row to its south. The first node stands as its own western neighbour, as the first row does above.
