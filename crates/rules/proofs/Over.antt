@@ -1,4 +1,4 @@
--- Laws of `every` and `largest`: every one means each, the largest bounds each; `-more` is one turn of a loop.
+-- Laws of `every` and `largest`: every one means each, and the largest bounds each.
 use mathlib.Core.Bool.{Bool, true, false, _&&_}
 use mathlib.Core.Logic.{_⊎_, ⊎-elim}
 use mathlib.Core.Path.{_≡_, refl, sym, _∙_}
@@ -32,10 +32,6 @@ every-missed n t i l e = by (every n t) refl
     by false h = refl
 
 -- ---- largest
-pub largest-more : (n : ℕ) (f : ℕ → ℕ) → max (largest n f) (f n) ≡ largest (n + 1) f
-unfolding largest
-largest-more n f = rw add-one
-
 pub largest-at : (n : ℕ) (f : ℕ → ℕ) (i : ℕ) → i < n → f i ≤ largest n f
 unfolding largest
 largest-at zero f i l = absurd (not-suc-le-zero l)

@@ -1,4 +1,3 @@
 -- Laws of the walk that its functions cite.
-pub mod Readings
 pub mod Maxima
 pub mod Rows

@@ -3,30 +3,20 @@
 use mathlib.Core.Bool.{true}
 use mathlib.Core.Path.{_≡_, refl, ap, _∙_}
 use Prim.Native.Nat.{ℕ, zero, suc, _+_, _-_, _≤_, _<_, max}
-use native.Mathlib.Numerals.{add-one}
 use native.Mathlib.Omega.{arith}
 use lib.IntN.{ℤ, natAbs, _-ℤ_}
 use Rattle.integers.specs.Difference.{var, _⊖_}
 use Rattle.integers.specs.Distance.{abs-is}
 use Rattle.rules.specs.declared.Geometry.{Geometry}
-use Rattle.rules.specs.declared.Node.{Node}
 use Rattle.rules.specs.declared.Findings.{Findings}
 use Rattle.rules.specs.Image.{Grid, nodeAt, rows, columns}
 use Rattle.rules.specs.Check.{allPass, largest, stepNorth, stepEast, stepsOf, findingsOf}
 use Rattle.rules.proofs.Over.{largest-none, largest-steps}
 use Rattle.rules.proofs.Limits.{node-within}
 use Rattle.rules.proofs.Slopes.{all-pass-at, north-most, east-most}
-use Rattle.slopes.specs.Walk.{StepsWithin, FindingsWithin, nothing, raised, widened, turns, along}
-
--- One more turn.
-pub turns-more : {A : Type 0} (n : ℕ) (step : ℕ → A → A) (a : A) → step n (turns n step a) ≡ turns (n + 1) step a
-unfolding turns
-turns-more n step a = rw add-one
-
-pub along-more : (south row : ℕ → Node) (n : ℕ) (found : Findings)
-    → widened (along south row n found) (row n) (row (n - 1)) (south n) ≡ along south row (n + 1) found
-unfolding along
-along-more south row n found = turns-more n _ found
+use Rattle.steps.specs.Walk.{noSteps, raised, widened, turns, along}
+use Rattle.steps.proofs.Turns.{turns-more}
+use Rattle.slopes.specs.Rows.{stepsAt, StepsWithin, FindingsWithin}
 
 -- A number that each turn raises to at least f of the turn ends as the larger of the first and the largest f.
 turns-largest : {A : Type 0} (size : A → ℕ) (f : ℕ → ℕ) (step : ℕ → A → A) → ((n : ℕ) (a : A) → size (step n a) ≡ max (size a) (f n))
@@ -37,11 +27,11 @@ turns-largest size f step h (suc n) a = h n (turns n step a) ∙ omega (arith, t
 
 -- The walk over the first rows of a grid.
 unfoldable pub overRows : Grid → ℕ → Findings
-overRows g n = turns n (λ row. along (nodeAt g (row - 1)) (nodeAt g row) (columns (g .geometry))) nothing
+overRows g n = turns n (stepsAt g) noSteps
 
-pub rows-more : (g : Grid) (n : ℕ) → along (nodeAt g (n - 1)) (nodeAt g n) (columns (g .geometry)) (overRows g n) ≡ overRows g (n + 1)
+pub rows-more : (g : Grid) (n : ℕ) → stepsAt g n (overRows g n) ≡ overRows g (n + 1)
 unfolding overRows
-rows-more g n = turns-more n _ nothing
+rows-more g n = turns-more n _ noSteps
 
 module _ (g : Geometry) (f : ℕ → ℕ → ℤ) where
   still : (x : ℤ) → natAbs (x -ℤ x) ≡ 0
@@ -56,12 +46,12 @@ module _ (g : Geometry) (f : ℕ → ℕ → ℤ) where
   east-steps = ap (largest (rows g)) (λ i row. largest-steps (λ i j. natAbs (f row i -ℤ f row j)) (λ i. still (f row i)) (columns g) i)
 
 -- One of the six numbers.
-walked : (g : Grid) (size : Findings → ℕ) (step : ℕ → ℕ → ℕ) → size nothing ≡ 0
+walked : (g : Grid) (size : Findings → ℕ) (step : ℕ → ℕ → ℕ) → size noSteps ≡ 0
     → ((row column : ℕ) (found : Findings) → size (widened found (nodeAt g row column) (nodeAt g row (column - 1)) (nodeAt g (row - 1) column)) ≡ max (size found) (step row column))
     → size (overRows g (rows (g .geometry))) ≡ largest (rows (g .geometry)) (λ row. largest (columns (g .geometry)) (step row))
 unfolding overRows along
 walked g size step z h =
-    turns-largest size _ _ (λ row a. turns-largest size (step row) _ (λ column. h row column) (columns (g .geometry)) a) (rows (g .geometry)) nothing
+    turns-largest size _ _ (λ row a. turns-largest size (step row) _ (λ column. h row column) (columns (g .geometry)) a) (rows (g .geometry)) noSteps
     ∙ omega (arith, z)
 
 pub found-all : (g : Grid) → overRows g (rows (g .geometry)) ≡ findingsOf g

@@ -12,8 +12,9 @@ use Rattle.rules.specs.Lookup.{nodePasses}
 use Rattle.rules.specs.Check.{every}
 use Rattle.nodes.specs.Cell.{rowStart}
 use Rattle.nodes.proofs.Parts.{node-in-row}
-use Rattle.slopes.specs.declared.Walk.the-variants.{Within, Beyond}
-use Rattle.slopes.specs.Walk.{walkOf, along, rowPasses, rowFindings, passesAt, stepsAt}
+use Rattle.steps.specs.declared.Walk.the-variants.{Within, Beyond}
+use Rattle.steps.specs.Walk.{walkOf, along, rowPasses, rowFindings}
+use Rattle.slopes.specs.Rows.{passesAt, stepsAt}
 
 -- The part of an image that begins at a row's first node.
 abbrev pub partAt : List ℕ → Geometry → ℕ → List ℕ

@@ -9,8 +9,9 @@ use borrow.Author.Needs.{needs}
 use Rattle.rules.specs.Image.{rows, gridOf}
 use Rattle.rules.specs.Check.{every, allPass}
 use Rattle.rules.proofs.Over.{every-more, every-missed}
-use Rattle.slopes.specs.declared.Walk.the-variants.{Within}
-use Rattle.slopes.specs.Walk.{turns, passesAt}
+use Rattle.steps.specs.declared.Walk.the-variants.{Within}
+use Rattle.steps.specs.Walk.{turns}
+use Rattle.slopes.specs.Rows.{passesAt}
 use Rattle.slopes.proofs.Rows.{within-limits, beyond-limits}
 use Rattle.slopes.proofs.Maxima.{overRows, rows-more, found-all}
 use Rattle.slopes.proofs.walk_grid.Statement.{statement}

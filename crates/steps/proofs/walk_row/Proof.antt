@@ -1,4 +1,4 @@
--- `slopes::walk_row` meets its contract. The invariant: west is the node before this column, the nodes passed so far are within question 9's limits,
+-- `steps::walk_row` meets its contract. The invariant: west is the node before this column, the nodes passed so far are within question 9's limits,
 -- and found has the steps to them. Assumes nothing.
 use mathlib.Core.Bool.{true}
 use mathlib.Core.Path.{_≡_, refl, sym, ap, _∙_}
@@ -11,11 +11,11 @@ use Rattle.rules.specs.Lookup.{nodePasses}
 use Rattle.rules.specs.Check.{every}
 use Rattle.rules.proofs.Over.{every-more, every-missed}
 use Rattle.nodes.specs.Cell.{nodeOf}
-use Rattle.slopes.specs.Walk.{turns, along, rowPasses, rowFindings}
-use Rattle.slopes.proofs.Readings.{node-narrow}
-use Rattle.slopes.proofs.Maxima.{along-more}
-use Rattle.slopes.proofs.walk_row.Statement.{statement}
-use Rattle.slopes.proofs.walk_row.Tie as tie
+use Rattle.steps.specs.Walk.{turns, along, rowPasses, rowFindings}
+use Rattle.steps.proofs.Readings.{node-narrow}
+use Rattle.steps.proofs.Turns.{along-more}
+use Rattle.steps.proofs.walk_row.Statement.{statement}
+use Rattle.steps.proofs.walk_row.Tie as tie
 
 abbrev Inv-loop : tie.InvT-loop
 Inv-loop south row columns found₀ west₀ column₀ found west column =

@@ -1,5 +1,5 @@
--- The walk over the nodes of a grid that finds the largest steps: each node is set beside its western and its southern neighbour.
--- The first column is its own western neighbour and the first row its own southern one: `i - 1` of 0 is 0.
+-- The walk along a row that finds the largest steps: each node is set beside its western and its southern neighbour.
+-- The first node is its own western neighbour: `column - 1` of 0 is 0.
 use mathlib.Core.Bool.{Bool, true, false}
 use mathlib.Core.List.{List}
 use Prim.Native.Nat.{ℕ, zero, suc, _-_, _≤_, max}
@@ -7,12 +7,11 @@ use lib.IntN.{ℤ, natAbs, _-ℤ_}
 use Rattle.rules.specs.declared.Node.{Node}
 use Rattle.rules.specs.declared.Steps.{Steps}
 use Rattle.rules.specs.declared.Findings.{Findings}
-use Rattle.rules.specs.Image.{Grid, nodeAt, columns}
 use Rattle.rules.specs.Lookup.{nodePasses}
 use Rattle.rules.specs.Check.{every}
 use Rattle.nodes.specs.Cell.{nodeOf}
-use Rattle.slopes.specs.declared.Walk.{Walk}
-use Rattle.slopes.specs.declared.Walk.the-variants.{Within, Beyond}
+use Rattle.steps.specs.declared.Walk.{Walk}
+use Rattle.steps.specs.declared.Walk.the-variants.{Within, Beyond}
 
 -- What a walk finds, by whether every node passed question 9.
 abbrev pub walkOf : Bool → Findings → Walk
@@ -20,8 +19,8 @@ walkOf true f = Within f
 walkOf false f = Beyond
 
 -- The largest steps of no nodes.
-abbrev pub nothing : Findings
-nothing =
+abbrev pub noSteps : Findings
+noSteps =
     record {
       latitude = record { north = 0; east = 0 };
       longitude = record { north = 0; east = 0 };
@@ -58,25 +57,8 @@ rowFindings south row = along (nodeOf south) (nodeOf row)
 abbrev pub rowPasses : (row : List ℕ) (columns : ℕ) → Bool
 rowPasses row columns = every columns (λ column. nodePasses (nodeOf row column))
 
--- Question 9 of a row of a grid, and its steps beside those before it.
-abbrev pub passesAt : Grid → ℕ → Bool
-passesAt g row = every (columns (g .geometry)) (λ column. nodePasses (nodeAt g row column))
-
-abbrev pub stepsAt : Grid → ℕ → Findings → Findings
-stepsAt g row = along (nodeAt g (row - 1)) (nodeAt g row) (columns (g .geometry))
-
 -- A node's values, read from the image, have 32 bits: their differences fit.
 pub record Narrow (n : Node) : Type 0 where
   pub latitude : natAbs (n .latitude) ≤ 2147483648
   pub longitude : natAbs (n .longitude) ≤ 2147483648
   pub height : natAbs (n .height) ≤ 2147483648
-
--- Steps that are at most a limit.
-pub record StepsWithin (limit : ℕ) (s : Steps) : Type 0 where
-  pub north-most : s .north ≤ limit
-  pub east-most : s .east ≤ limit
-
-pub record FindingsWithin (limit : ℕ) (f : Findings) : Type 0 where
-  pub latitude-most : StepsWithin limit (f .latitude)
-  pub longitude-most : StepsWithin limit (f .longitude)
-  pub height-most : StepsWithin limit (f .height)

@@ -1,10 +1,10 @@
--- `slopes::widen` meets its contract: each value is what `raise` ensures; the signed fields are read back from their bits. Assumes nothing.
+-- `steps::widen` meets its contract: each value is what `raise` ensures; the signed fields are read back from their bits. Assumes nothing.
 use borrow.Author.Needs.{needs}
 use mir.Syntax.{w64}
 use Rattle.integers.specs.Machine.{kept}
-use Rattle.slopes.specs.Walk.{widened}
-use Rattle.slopes.proofs.widen.Statement.{statement}
-use Rattle.slopes.proofs.widen.Tie as tie
+use Rattle.steps.specs.Walk.{widened}
+use Rattle.steps.proofs.widen.Statement.{statement}
+use Rattle.steps.proofs.widen.Tie as tie
 
 raise-requires-3 : tie.Need-raise-requires-3
 raise-requires-3 c κs = let s = c .before .before .before .before .before .before .before .before .before .before .before .before .before .before in (

@@ -14,7 +14,7 @@ use Rattle.integers.specs.Difference.{lit, _⊖_}
 use Rattle.integers.specs.Distance.{abs-is}
 use Rattle.rules.specs.Image.{twosComplement, u32At, i32At}
 use Rattle.nodes.specs.Cell.{nodeOf}
-use Rattle.slopes.specs.Walk.{Narrow}
+use Rattle.steps.specs.Walk.{Narrow}
 
 twos-narrow : (n : ℕ) → n < 4294967296 → natAbs (twosComplement 2147483648 n) ≤ 2147483648
 twos-narrow n h = by (ltb n 2147483648) refl
