@@ -1,9 +1,8 @@
 -- A grid that passes the check is a steady source: its nodes are all within question 9's limits, so every lookup in the bounds is answered,
 -- and its steps are within question 12's, so every value changes slowly.
-use mathlib.Core.Bool.{Bool, true, _&&_}
+use mathlib.Core.Bool.{true}
 use mathlib.Core.Path.{_≡_}
-use Prim.Native.Nat.{ℕ, zero, suc, _+_, _-_, _≤_, _<_, max}
-use native.Mathlib.Decide.{ℕ-discrete}
+use Prim.Native.Nat.{ℕ, _+_, _-_, _≤_, _<_}
 use native.Mathlib.Nat.{le-trans}
 use native.Mathlib.Omega.{arith}
 use lib.IntN.{ℤ, pos, natAbs, _+ℤ_, _-ℤ_}
@@ -11,7 +10,7 @@ use lib.Signed.{_≤ℤ_}
 use borrow.Author.Tests.{leb-true}
 use Rattle.integers.specs.Difference.{order, var, lit, _⊕_, _⊖_}
 use Rattle.integers.specs.Distance.{Near, near-sym, abs-near}
-use Rattle.integers.specs.Tests.{and-left, and-right, and-both, all-three}
+use Rattle.integers.specs.Tests.{and-both, all-three}
 use Rattle.rules.specs.declared.Axis.{Axis}
 use Rattle.rules.specs.declared.Geometry.{Geometry}
 use Rattle.rules.specs.declared.Point.{Point}
@@ -23,35 +22,18 @@ use Rattle.rules.specs.Questions.{Open}
 use Rattle.rules.specs.Bilinear.{offset, cellOf, valueAt}
 use Rattle.rules.specs.Lookup.{onAxis, inside, nodePasses, cellPasses, question9, lookup}
 use Rattle.rules.specs.Ways.{sourceOf}
-use Rattle.rules.specs.Check.{every, largest, allPass, stepNorth, stepEast, stepsOf, gentle, question12, findingsOf, check}
+use Rattle.rules.specs.Check.{largest, allPass, stepNorth, stepEast, stepsOf, gentle, question12, findingsOf, check}
 use Rattle.rules.specs.Promise.{Inside}
 use Rattle.rules.proofs.Opening.{asked}
 use Rattle.rules.proofs.Cells.{on-axis, axis-within, on-latitude, on-longitude, cell-nodes}
 use Rattle.rules.proofs.Limits.{node-within}
+use Rattle.rules.proofs.Over.{every-at, largest-at}
 use Rattle.returning.specs.Points.{Gradual}
 use Rattle.returning.specs.Interpolation.{hundredth, value-limit, value-change}
 use Rattle.returning.specs.Iteration.{Room}
 use Rattle.returning.specs.Trips.{Steady}
 
--- ---- the check's definitions at one index
-every-at : (n : ℕ) (t : ℕ → Bool) → every n t ≡ true → (i : ℕ) → i < n → t i ≡ true
-unfolding every
-every-at zero t h i l = absurd (omega arith)
-every-at (suc n) t h i l = go (λ k. every-at n t (and-left (every n t) (t n) h) i k) (ℕ-discrete i n)
-  where
-    go : (i < n → t i ≡ true) → Dec (i ≡ n) → t i ≡ true
-    go r (yes e) = rw e (and-right (every n t) (t n) h)
-    go r (no f) = r (omega arith)
-
-largest-at : (n : ℕ) (f : ℕ → ℕ) (i : ℕ) → i < n → f i ≤ largest n f
-unfolding largest
-largest-at zero f i l = absurd (omega arith)
-largest-at (suc n) f i l = go (λ k. largest-at n f i k) (ℕ-discrete i n)
-  where
-    go : (i < n → f i ≤ largest n f) → Dec (i ≡ n) → f i ≤ max (largest n f) (f n)
-    go r (yes e) = rw e (omega arith)
-    go r (no g) = let k = r (omega arith) in omega arith
-
+-- The largest over rows and columns bounds each.
 largest-of : (m n : ℕ) (f : ℕ → ℕ → ℕ) (i j : ℕ) → i < m → j < n → f i j ≤ largest m (λ i. largest n (λ j. f i j))
 largest-of m n f i j k l = le-trans (largest-at n (λ j. f i j) j l) (largest-at m (λ i. largest n (λ j. f i j)) i k)
 

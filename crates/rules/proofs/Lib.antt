@@ -3,3 +3,5 @@ pub mod Order
 pub mod Opening
 pub mod Cells
 pub mod Limits
+pub mod Over
+pub mod Slopes

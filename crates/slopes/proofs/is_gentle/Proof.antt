@@ -1,0 +1,34 @@
+-- `slopes::is_gentle` meets its contract: steps of at most 20,000,000 times spacings of at most 100,000,000 fit. Assumes nothing.
+use mathlib.Core.Path.{refl}
+use native.Mathlib.Nat.{mul-le-mul}
+use native.Mathlib.Omega.{arith}
+use Rattle.rules.specs.Check.{gentle}
+use Rattle.slopes.proofs.is_gentle.Statement.{statement}
+use Rattle.slopes.proofs.is_gentle.Tie as tie
+
+mul-result : tie.Need-mul-result
+mul-result c = let h = c .before .pre in omega (arith, mul-le-mul (h .2 .north-most) (h .1 .spacing-most))
+
+mul-result-2 : tie.Need-mul-result-2
+mul-result-2 c = let h = c .before .before .pre in omega (arith, mul-le-mul (h .2 .east-most) (h .0 .spacing-most))
+
+add-result : tie.Need-add-result
+add-result c =
+    let h = c .before .before .pre in
+    omega (arith, mul-le-mul (h .2 .north-most) (h .1 .spacing-most), mul-le-mul (h .2 .east-most) (h .0 .spacing-most))
+
+mul-result-3 : tie.Need-mul-result-3
+mul-result-3 c =
+    let h = c .before .before .pre in
+    omega (arith, mul-le-mul (h .2 .north-most) (h .1 .spacing-most), mul-le-mul (h .2 .east-most) (h .0 .spacing-most))
+
+mul-result-4 : tie.Need-mul-result-4
+mul-result-4 c = let h = c .before .before .pre in omega (arith, mul-le-mul (h .0 .spacing-most) (h .1 .spacing-most))
+
+returns : tie.Need-returns
+unfolding gentle
+returns c = refl
+
+pub is-gentle-spec : {M : Type 1} → statement M
+is-gentle-spec =
+    tie.close (tie.spec mul-result mul-result-2 add-result mul-result-3 mul-result-4 returns)
