@@ -1,13 +1,11 @@
 // The C interface (include/marker.h): each function checks all that it is given, and leaves what it was lent unchanged where it refuses.
 use notation::read_notation;
 use notation::write_notation;
+use numbers::refusal_number;
 use rules::Notation;
 use rules::Reading;
-use rules::Refusal;
 use rules::Writing;
 ghost use mathlib.Core.Path.{_≡_};
-ghost use lib.IntN.{pos};
-ghost use Rattle.rules.specs.Answers.{numberOf};
 ghost use Rattle.rules.specs.Notation.{readNotation, writeNotation};
 ghost use Rattle.marker.specs.Calls.{statusOf, findingsAfter, angleAfter, notationAfter};
 
@@ -52,27 +50,5 @@ pub extern "C" fn marker_write_notation(longitude: bool, nd: i64, notation: &mut
             0
         }
         Writing::Refused(r) => refusal_number(r),
-    }
-}
-
-// A refusal's number.
-fn refusal_number(r: Refusal) -> i64
-    ensures { λ n. ⌜ n ≡ pos (numberOf r) ⌝ }
-{
-    match r {
-        Refusal::ImageLength => 1,
-        Refusal::Edition => 2,
-        Refusal::NodeCount => 3,
-        Refusal::Spacing => 4,
-        Refusal::GridBounds => 5,
-        Refusal::NodeBytes => 6,
-        Refusal::FixLimits => 7,
-        Refusal::OutsideBounds => 8,
-        Refusal::NodeLimits => 9,
-        Refusal::IterateOutside => 10,
-        Refusal::NotSettled => 11,
-        Refusal::Slope => 12,
-        Refusal::BadNotation => 13,
-        Refusal::ListLengths => 14,
     }
 }

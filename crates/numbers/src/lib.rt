@@ -1,9 +1,11 @@
-// Numbers as the machine holds them: the size of a signed number, limits, and the little-endian numbers of an image.
+// Numbers as the machine holds them: the size of a signed number, limits, the little-endian numbers of an image, and the numbers of refusals.
+use rules::Refusal;
 ghost use mathlib.Core.Path.{_≡_};
 ghost use Prim.Native.Nat.{_+_, _≤_, _<_};
-ghost use lib.IntN.{natAbs};
+ghost use lib.IntN.{pos, natAbs};
 ghost use lib.ListN.{length};
 ghost use Rattle.rules.specs.Units.{between, within};
+ghost use Rattle.rules.specs.Answers.{numberOf};
 ghost use Rattle.rules.specs.Image.{twosComplement, u32At, i32At, i64At};
 
 // The distance from zero.
@@ -79,4 +81,26 @@ pub fn i64_at(s: &[u8], at: usize) -> i64
     ensures { λ r. ⌜ r ≡ i64At (now (s .entry)) at ⌝ }
 {
     signed64(u32_at(s, at) + 4294967296 * u32_at(s, at + 4))
+}
+
+// A refusal's number.
+pub fn refusal_number(r: Refusal) -> i64
+    ensures { λ n. ⌜ n ≡ pos (numberOf r) ⌝ }
+{
+    match r {
+        Refusal::ImageLength => 1,
+        Refusal::Edition => 2,
+        Refusal::NodeCount => 3,
+        Refusal::Spacing => 4,
+        Refusal::GridBounds => 5,
+        Refusal::NodeBytes => 6,
+        Refusal::FixLimits => 7,
+        Refusal::OutsideBounds => 8,
+        Refusal::NodeLimits => 9,
+        Refusal::IterateOutside => 10,
+        Refusal::NotSettled => 11,
+        Refusal::Slope => 12,
+        Refusal::BadNotation => 13,
+        Refusal::ListLengths => 14,
+    }
 }

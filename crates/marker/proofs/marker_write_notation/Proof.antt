@@ -2,15 +2,11 @@
 use mathlib.Core.Path.{_≡_, sym, ap, _∙_}
 use mir.Syntax.{w64}
 use Rattle.integers.specs.Machine.{kept}
-use Rattle.rules.specs.Answers.{Outcome, values, number, numberOf, writingOf}
+use Rattle.rules.specs.Answers.{values, number, numberOf, writingOf}
 use Rattle.rules.specs.Notation.{writeNotation}
 use borrow.Author.Needs.{needs}
 use Rattle.marker.proofs.marker_write_notation.Statement.{statement}
 use Rattle.marker.proofs.marker_write_notation.Tie as tie
-use Rattle.marker.proofs.marker_write_notation.Reads as reads
-use Rattle.marker.proofs.marker_write_notation.Lts as lts
-use Rattle.marker.proofs.refusal_number.Reads as refusal-number-reads
-use Rattle.notation.proofs.write_notation.Reads as write-notation-reads
 
 -- the rule, where `write_notation` wrote and where it refused
 written : (c : tie.After-n) → let s = c .before .before .before .args in writeNotation (s .longitude) (s .nd) ≡ values (c .n .given .0 .0)
@@ -23,31 +19,9 @@ refused c =
     let s = c .before .before .before in
     sym (rw (kept w64 (s .args .nd) (s .fits .nd .sfits)) at (c .before .before .write-notation .ensures)) ∙ ap writingOf (c .r .given .1)
 
--- src/lib.rt:48:11
-write-notation-requires : tie.Need-write-notation-requires
-write-notation-requires c κs = search needs
-
--- src/lib.rt:49:26
-enum-known-n : tie.Need-enum-known-n
-enum-known-n c = search needs
-
--- src/lib.rt:50:26
-cast-letter : tie.Need-cast-letter
-cast-letter c = search needs
-
--- src/lib.rt:54:26
-enum-known-r : tie.Need-enum-known-r
-enum-known-r c = search needs
-
--- src/lib.rt:54:32
-refusal-number-requires : tie.Need-refusal-number-requires
-refusal-number-requires c κs = search needs
-
--- src/lib.rt:43:1
 returns : tie.Need-returns
 returns c = let e = written (c .before .before .before) in (rw e, rw e)
 
--- src/lib.rt:43:1
 returns-2 : tie.Need-returns-2
 returns-2 c = let e = refused (c .before .before) in
     (rw e (kept w64 (c .refusal-number .result) (c .refusal-number .ok) ∙ c .refusal-number .ensures), rw e)
@@ -56,10 +30,10 @@ pub marker-write-notation-spec : {M : Type 1} → statement M
 marker-write-notation-spec =
     tie.close
     (tie.spec
-    write-notation-requires
-    enum-known-n
-    cast-letter
-    enum-known-r
-    refusal-number-requires
+    (λ c κs. search needs)
+    (λ c. search needs)
+    (λ c. search needs)
+    (λ c. search needs)
+    (λ c κs. search needs)
     returns
     returns-2)

@@ -1,0 +1,2 @@
+-- The return promise, of the values of a trip.
+pub mod Kept

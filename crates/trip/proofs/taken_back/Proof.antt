@@ -1,0 +1,32 @@
+-- `trip::taken_back` meets its contract: the way back takes the angles and the height as the way out answered them. Assumes nothing.
+use mathlib.Core.Path.{_≡_, sym, ap, _∙_}
+use denote.Ref.{now}
+use mir.Syntax.{w64}
+use Rattle.integers.specs.Machine.{kept}
+use Rattle.rules.specs.Answers.{answerOf}
+use Rattle.rules.specs.Ways.{wayBack}
+use Rattle.trip.specs.Trip.{pointOf, returnOf}
+use borrow.Author.Needs.{needs}
+use Rattle.trip.proofs.taken_back.Statement.{statement}
+use Rattle.trip.proofs.taken_back.Tie as tie
+
+went : (c : tie.After-way-back) → let s = c .before .before .before .before .before .args in answerOf (c .way-back .result) ≡ wayBack (now (s .image)) (pointOf (s .there)) (s .there .height)
+went c =
+    let a = c .before .before .before .before .before .args .there in
+    rw (
+      kept w64 (a .latitude) (c .before .before .before .struct-told .given .0 .1),
+      kept w64 (a .longitude) (c .before .before .struct-told2 .given .1 .0 .1),
+      kept w64 (a .height) (c .before .struct-told3 .given .1 .1 .0 .1),
+    ) at (c .way-back .ensures)
+
+returns : tie.Need-returns
+unfolding returnOf
+returns c = rw (sym (went (c .before .before .before)) ∙ ap answerOf (c .before .again .given .1))
+
+returns-2 : tie.Need-returns-2
+unfolding returnOf
+returns-2 c = rw (sym (went (c .before .before .before)) ∙ ap answerOf (c .before .r .given .1))
+
+pub taken-back-spec : {M : Type 1} → statement M
+taken-back-spec =
+    tie.close (tie.spec (λ c κs. search needs) (λ c. search needs) (λ c. search needs) returns returns-2)

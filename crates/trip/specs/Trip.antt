@@ -1,0 +1,43 @@
+-- A trip: grid check, way out and way back in turn, and what the return promise says of one that returns.
+use mathlib.Core.List.{List}
+use mathlib.Core.Path.{_≡_}
+use Prim.Native.Nat.{ℕ, _≤_}
+use lib.IntN.{ℤ}
+use Rattle.rules.specs.declared.Point.{Point}
+use Rattle.rules.specs.declared.Position.{Position}
+use Rattle.rules.specs.Answers.{Outcome, values, number, numberOf, andThen}
+use Rattle.rules.specs.Ways.{wayBack, wayOut}
+use Rattle.rules.specs.Check.{gridCheck}
+use Rattle.rules.specs.Promise.{Within}
+use Rattle.trip.specs.declared.Trip.{Trip}
+use Rattle.trip.specs.declared.Tripped.{Tripped}
+use Rattle.trip.specs.declared.Tripped.the-variants as tripped
+
+abbrev pub pointOf : Position → Point
+pointOf a = record { latitude = a .latitude; longitude = a .longitude }
+
+-- The second way takes the two angles and the height that the first one answered.
+unfoldable pub returnOf : List ℕ → Position → Outcome Trip
+returnOf b a = andThen (wayBack b (pointOf a) (a .height)) (λ r. values (record { there = a; again = r }))
+
+unfoldable pub outAndBack : List ℕ → Point → ℤ → Outcome Trip
+outAndBack b p h = andThen (wayOut b p h) (λ a. returnOf b a)
+
+unfoldable pub trip : List ℕ → Point → ℤ → Outcome Trip
+trip b p h = andThen (gridCheck b) (λ f. outAndBack b p h)
+
+-- The number or the values of the code's answer, case by case.
+abbrev pub trippedOf : Tripped → Outcome Trip
+trippedOf (tripped.Returned t) = values t
+trippedOf (tripped.Refused r) = number (numberOf r)
+
+-- What the promise says of the values: at most five evaluations, each angle within 1 nd of the fix's, the fix's height exactly.
+pub record Returns (p : Point) (h : ℤ) (t : Trip) : Type 0 where
+  pub at-least-one : 1 ≤ t .there .count
+  pub at-most-five : t .there .count ≤ 5
+  pub angles : Within 1 (pointOf (t .again)) p
+  pub height : t .again .height ≡ h
+
+abbrev pub Keeps : Point → ℤ → Tripped → Type 0
+Keeps p h (tripped.Returned t) = Returns p h t
+Keeps p h (tripped.Refused r) = ⊥
