@@ -47,7 +47,7 @@ fn check_nodes(image: &[u8], g: Geometry) -> Checked
     }
 }
 
-// The rows in turn.
+// The rows from south to north: question 9 of every node, and the largest steps between neighbours.
 fn walk_grid(image: &[u8], g: Geometry) -> Walk
     requires { ⌜ Open (length (now image)) g ⌝ }
     ensures { λ r. ⌜ r ≡ walkOf (allPass (gridOf (now (image .entry)) g)) (findingsOf (gridOf (now (image .entry)) g)) ⌝ }
@@ -69,7 +69,7 @@ fn walk_grid(image: &[u8], g: Geometry) -> Walk
     Walk::Within(found)
 }
 
-// A row and the one to its south. The first row stands as its own southern neighbour: its steps are 0, which changes no maximum.
+// A row beside the one to its south. The first row stands as its own southern neighbour: steps of 0 change no maximum.
 fn walk_at(image: &[u8], g: Geometry, row: u64, found: Findings) -> Walk
     requires { ⌜ Open (length (now image)) g × (row < rows g) ⌝ }
     ensures { λ r. ⌜ r ≡ walkOf (passesAt (gridOf (now (image .entry)) g) row) (stepsAt (gridOf (now (image .entry)) g) row found) ⌝ }
@@ -80,14 +80,14 @@ fn walk_at(image: &[u8], g: Geometry, row: u64, found: Findings) -> Walk
     walk_row(&image[south..], &image[start..], g.longitude.count, found)
 }
 
-// The row before, of the first row itself.
+// The row to the south; of the first row the row itself.
 fn previous(row: u64) -> u64
     ensures { λ r. ⌜ r ≡ row - 1 ⌝ }
 {
     if row == 0 { 0 } else { row - 1 }
 }
 
-// Question 12. The steps are small since question 9 has passed.
+// Question 12, of steps that question 9 has left small, so that the products fit.
 fn all_gentle(g: Geometry, f: Findings) -> bool
     requires { ⌜ Sized (g .latitude) × Sized (g .longitude) × FindingsWithin 20000000 f ⌝ }
     ensures { λ r. ⌜ r ≡ question12 g f ⌝ }

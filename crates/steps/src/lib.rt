@@ -67,7 +67,7 @@ fn widen(found: Findings, here: Node, west: Node, south: Node) -> Findings
     }
 }
 
-// The same of one value.
+// The same of one value: the differences of numbers of 32 bits fit.
 fn raise(found: Steps, here: i64, west: i64, south: i64) -> Steps
     requires { ⌜ (natAbs here ≤ 2147483648) × (natAbs west ≤ 2147483648) × (natAbs south ≤ 2147483648) ⌝ }
     ensures { λ r. ⌜ r ≡ raised found here west south ⌝ }
@@ -77,6 +77,7 @@ fn raise(found: Steps, here: i64, west: i64, south: i64) -> Steps
     Steps { north, east }
 }
 
+// The larger of two numbers.
 fn larger(a: u64, b: u64) -> u64
     ensures { λ r. ⌜ r ≡ max a b ⌝ }
 {
