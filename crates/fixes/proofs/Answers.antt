@@ -1,0 +1,75 @@
+-- The content of the answer list, fixed for every index: five numbers for each fix, which are those of the fix's conversion. A loop that has
+-- written the first k answers writes one more.
+use mathlib.Core.List.{List, [], _∷_, _++_, append-assoc}
+use mathlib.Core.Path.{_≡_, refl, sym, _∙_}
+use Prim.Native.Nat.{ℕ, zero, suc, _+_, _*_, _-_, _≤_, _<_}
+use native.Mathlib.Omega.{arith}
+use lib.IntN.{ℤ, pos}
+use lib.ListN.{length, getD, take, drop, length-append}
+use lib.Seq.{take-all, take-at, take-add, length-take-le, drop-append-add}
+use Rattle.rules.specs.declared.Point.{Point}
+use Rattle.rules.specs.declared.Position.{Position}
+use Rattle.rules.specs.Answers.{Outcome, values, number}
+use Rattle.rules.specs.Lists.{fiveOf, answersOf}
+
+five-long : (a : Outcome Position) → length (fiveOf a) ≡ 5
+five-long (values p) = refl
+five-long (number n) = refl
+
+-- The fix at place k: its point and its height.
+abbrev pub pointAt : List ℤ → ℕ → Point
+pointAt fixes k = record { latitude = getD fixes (3 * k) (pos 0); longitude = getD fixes (3 * k + 1) (pos 0) }
+
+abbrev pub heightAt : List ℤ → ℕ → ℤ
+heightAt fixes k = getD fixes (3 * k + 2) (pos 0)
+
+module _ (convert : Point → ℤ → Outcome Position) where
+  pub answers-long : (fixes : List ℤ) (n : ℕ) → length fixes ≡ 3 * n → length (answersOf convert fixes) ≡ 5 * n
+  answers-long [] n h = omega arith
+  answers-long (_ ∷ []) n h = absurd (omega arith)
+  answers-long (_ ∷ _ ∷ []) n h = absurd (omega arith)
+  answers-long (x ∷ y ∷ z ∷ rest) n h =
+      rw length-append (omega (arith, five-long (convert (pointAt (x ∷ y ∷ []) 0) z), answers-long rest (n - 1) (omega arith)))
+
+  pub answers-at : (fixes : List ℤ) (k : ℕ) → 3 * k + 2 < length fixes
+      → take 5 (drop (5 * k) (answersOf convert fixes)) ≡ fiveOf (convert (pointAt fixes k) (heightAt fixes k))
+  answers-at [] k h = absurd (omega arith)
+  answers-at (_ ∷ []) k h = absurd (omega arith)
+  answers-at (_ ∷ _ ∷ []) k h = absurd (omega arith)
+  answers-at (x ∷ y ∷ z ∷ rest) zero h = let a = convert (pointAt (x ∷ y ∷ []) 0) z in take-at (fiveOf a) (answersOf convert rest) 5 (five-long a)
+  answers-at (x ∷ y ∷ z ∷ rest) (suc k) h =
+      let a = convert (pointAt (x ∷ y ∷ []) 0) z in
+      let e : 5 * suc k ≡ length (fiveOf a) + 5 * k = omega (arith, five-long a) in
+      let i : 3 * suc k ≡ suc (suc (suc (3 * k))) = omega arith in
+      let i₁ : 3 * suc k + 1 ≡ suc (suc (suc (3 * k + 1))) = omega arith in
+      let i₂ : 3 * suc k + 2 ≡ suc (suc (suc (3 * k + 2))) = omega arith in
+      rw (e, drop-append-add, i₁, i₂, i) (answers-at rest k (omega arith))
+
+  module _ (fixes : List ℤ) where
+    -- The first k answers are written.
+    pub Written : List ℤ → ℕ → Type 0
+    Written answers k = take (5 * k) answers ≡ take (5 * k) (answersOf convert fixes)
+
+    pub written-none : (answers : List ℤ) → Written answers 0
+    unfolding Written
+    written-none answers = refl
+
+    -- One more, at the front of the part that was lent on.
+    pub written-more : (answers part rest post : List ℤ) (k : ℕ) (a : Outcome Position) → 3 * k + 2 < length fixes → 5 * k ≤ length answers
+        → part ≡ fiveOf a ++ rest → a ≡ convert (pointAt fixes k) (heightAt fixes k)
+        → Written answers k → Written (take (5 * k) answers ++ (part ++ post)) (k + 1)
+    unfolding Written
+    written-more answers part rest post k a hf ha e r w =
+        let n : 5 * (k + 1) ≡ 5 * k + 5 = omega arith in
+        let front : length (take (5 * k) answers ++ fiveOf a) ≡ 5 * k + 5 = rw (length-append, length-take-le) (omega (arith, five-long a)) in
+        let new : take (5 * k + 5) (take (5 * k) answers ++ (part ++ post)) ≡ take (5 * k) answers ++ fiveOf a =
+        rw (e, append-assoc (fiveOf a) rest post, ← append-assoc (take (5 * k) answers) (fiveOf a) (rest ++ post))
+        (take-at (take (5 * k) answers ++ fiveOf a) (rest ++ post) (5 * k + 5) front)
+        in
+        rw (n, new, take-add, answers-at fixes k hf, ← r, w)
+
+    pub written-all : (answers : List ℤ) (n : ℕ) → length fixes ≡ 3 * n → length answers ≡ 5 * n
+        → Written answers n → answers ≡ answersOf convert fixes
+    unfolding Written
+    written-all answers n hf ha w =
+        sym (take-all (5 * n) answers (omega arith)) ∙ w ∙ take-all (5 * n) (answersOf convert fixes) (omega (arith, answers-long fixes n hf))

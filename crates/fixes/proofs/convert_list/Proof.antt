@@ -1,0 +1,69 @@
+-- `fixes::convert_list` meets its contract: a question's no gives its number and leaves the answers; else all are written. Assumes nothing.
+use borrow.Author.Needs.{needs}
+use borrow.Author.Tests.{not-true, not-false}
+use mathlib.Core.Bool.{Bool}
+use mathlib.Core.Path.{_≡_, sym, ap, _∙_}
+use denote.Ref.{now}
+use lib.ListN.{length}
+use mir.Syntax.{w64}
+use Rattle.integers.specs.Machine.{kept}
+use Rattle.rules.specs.Answers.{values, number, numberOf, openedOf}
+use Rattle.rules.specs.Lists.{question14, convertList}
+use Rattle.rules.specs.Questions.{opening}
+use Rattle.fixes.proofs.convert_list.Statement.{statement}
+use Rattle.fixes.proofs.convert_list.Tie as tie
+
+-- questions 1 to 6 and 14, as the code found them
+found : (c : tie.After-g) → opening (now (c .before .before .before .before .args .image)) ≡ values (c .g .given .0 .0)
+found c = sym (c .before .before .«open» .ensures) ∙ ap openedOf (c .g .given .1)
+
+refused : (c : tie.After-r) → opening (now (c .before .before .before .before .args .image)) ≡ number (numberOf (c .r .given .0 .0))
+refused c = sym (c .before .before .«open» .ensures) ∙ ap openedOf (c .r .given .1)
+
+lengths : (c : tie.After-lengths-pass) (b : Bool) → c .lengths-pass .result ≡ b
+    → let s = c .before .before .before .before .before .before .before .args in question14 (length (now (s .fixes))) (length (now (s .answers))) ≡ b
+lengths c b e = sym (c .lengths-pass .ensures) ∙ e
+
+returns : tie.Need-returns
+unfolding convertList
+returns c =
+    let t = c .before .before in
+    let q = lengths t _ (not-true _ (c .before .if1 .taken)) in
+    let n = c .refusal-number in
+    (rw (found (t .before .before .before), q) (kept w64 (n .result) (n .ok) ∙ n .ensures), rw (found (t .before .before .before), q))
+
+convert-all-requires : tie.Need-convert-all-requires
+convert-all-requires c κs =
+    let t = c .before .before in
+    (found (t .before .before .before), lengths t _ (not-false _ (c .before .if1 .left)))
+
+returns-2 : tie.Need-returns-2
+unfolding convertList
+returns-2 c =
+    let e = c .before .before .before in
+    let t = e .before in
+    let q = lengths t _ (not-false _ (e .if1 .left)) in
+    (rw (found (t .before .before .before), q), rw (found (t .before .before .before), q) (c .before .convert-all .ensures))
+
+returns-3 : tie.Need-returns-3
+unfolding convertList
+returns-3 c =
+    let n = c .refusal-number2 in
+    (rw (refused (c .before .before)) (kept w64 (n .result) (n .ok) ∙ n .ensures), rw (refused (c .before .before)))
+
+pub convert-list-spec : {M : Type 1} → statement M
+convert-list-spec =
+    tie.close
+    (tie.spec
+    (λ c κs. search needs)
+    (λ c. search needs)
+    (λ c κs. search needs)
+    (λ c κs. search needs)
+    (λ c. search needs)
+    returns
+    convert-all-requires
+    (λ c. search needs)
+    (λ c κs. search needs)
+    (λ c. search needs)
+    returns-2
+    returns-3)

@@ -1,0 +1,52 @@
+-- `fixes::write_answer` meets its contract: each arm is told which answer it has, and the five numbers that it stores are that answer's.
+-- Assumes nothing.
+use borrow.Author.Needs.{needs}
+use mathlib.Core.Path.{_∙_}
+use Prim.Native.Nat.{_≤_}
+use mir.Facts.{toZ-pos}
+use mir.Syntax.{w64}
+use Rattle.integers.specs.Machine.{kept, zarith}
+use Rattle.fixes.proofs.write_answer.Statement.{statement}
+use Rattle.fixes.proofs.write_answer.Tie as tie
+
+-- the count of the answer that is matched
+counted : (c : tie.After-a) → c .a .given .0 .0 .count ≤ 5
+counted c = rw (c .a .given .1) at (c .before .before .pre .1)
+
+cast-count : tie.Need-cast-count
+cast-count c = omega (zarith, counted (c .before .before .before .before .before))
+
+returns : tie.Need-returns
+returns c =
+    let t = c .before .before .before .before .before .before in
+    let p = t .before .before .a .given .0 .0 in
+    let f = t .struct-told .given in
+    c .before .write-five .ensures
+    ∙ simp (
+      kept w64 (p .latitude) (f .0 .1),
+      kept w64 (p .longitude) (f .1 .0 .1),
+      kept w64 (p .height) (f .1 .1 .0 .1),
+      toZ-pos w64 (cast-count (c .before .before .before) .sfits),
+      t .before .before .a .given .1,
+    )
+
+returns-2 : tie.Need-returns-2
+returns-2 c =
+    let n = c .before .before .before in
+    c .before .write-five2 .ensures
+    ∙ simp (kept w64 (n .refusal-number .result) (n .refusal-number .ok)) (simp (n .refusal-number .ensures, n .before .before .a2 .given .1))
+
+pub write-answer-spec : {M : Type 1} → statement M
+write-answer-spec =
+    tie.close
+    (tie.spec
+    (λ c. search needs)
+    cast-count
+    (λ c κs. search needs)
+    (λ c. search needs)
+    (λ c κs. search needs)
+    (λ c κs. search needs)
+    (λ c. search needs)
+    returns
+    (λ c. search needs)
+    returns-2)

@@ -1,0 +1,139 @@
+// Lists of fixes: one call converts all its fixes the same way, out or back, into the answer list that is lent to it.
+use back::back_over;
+use image::open;
+use numbers::refusal_number;
+use out::out_over;
+use rules::Answer;
+use rules::Geometry;
+use rules::Opened;
+use rules::Point;
+use rules::Refusal;
+ghost use mathlib.Core.Bool.{true};
+ghost use mathlib.Core.List.{_++_, _∷_, []};
+ghost use mathlib.Core.Path.{_≡_};
+ghost use Prim.Native.Nat.{_≤_};
+ghost use lib.IntN.{pos};
+ghost use lib.ListN.{length, drop};
+ghost use Rattle.rules.specs.Answers.{values, answerOf};
+ghost use Rattle.rules.specs.Image.{gridOf};
+ghost use Rattle.rules.specs.Questions.{opening};
+ghost use Rattle.rules.specs.Ways.{sourceOf};
+ghost use Rattle.rules.specs.Lists.{fiveOf, answersOf, question14, convertList, listOut, listBack, listAfter, listNumber};
+ghost use Rattle.fixes.specs.Ways.{wayOf, CountFits};
+
+// The way that all fixes of a list take.
+pub enum Way {
+    Out,
+    Back,
+}
+
+// All fixes out: 0 with every answer written, or the number of the question that left the answer list unchanged.
+pub fn list_out(image: &[u8], fixes: &[i64], answers: &mut [i64]) -> i64
+    ensures number { λ r. ⌜ r ≡ pos (listNumber (listOut (now (image .entry)) (now (fixes .entry)) (now (answers .entry)))) ⌝ }
+    ensures answers { λ _. ⌜ now (answers .exit) ≡ listAfter (listOut (now (image .entry)) (now (fixes .entry)) (now (answers .entry))) (now (answers .entry)) ⌝ }
+{
+    convert_list(Way::Out, image, fixes, answers)
+}
+
+// All fixes back, likewise.
+pub fn list_back(image: &[u8], fixes: &[i64], answers: &mut [i64]) -> i64
+    ensures number { λ r. ⌜ r ≡ pos (listNumber (listBack (now (image .entry)) (now (fixes .entry)) (now (answers .entry)))) ⌝ }
+    ensures answers { λ _. ⌜ now (answers .exit) ≡ listAfter (listBack (now (image .entry)) (now (fixes .entry)) (now (answers .entry))) (now (answers .entry)) ⌝ }
+{
+    convert_list(Way::Back, image, fixes, answers)
+}
+
+// Questions 1 to 6, then 14, then each fix in turn.
+fn convert_list(way: Way, image: &[u8], fixes: &[i64], answers: &mut [i64]) -> i64
+    ensures number { λ r. ⌜ r ≡ pos (listNumber (convertList (wayOf way) (now (image .entry)) (now (fixes .entry)) (now (answers .entry)))) ⌝ }
+    ensures answers { λ _. ⌜ now (answers .exit) ≡ listAfter (convertList (wayOf way) (now (image .entry)) (now (fixes .entry)) (now (answers .entry))) (now (answers .entry)) ⌝ }
+{
+    match open(image) {
+        Opened::Grid(g) => {
+            if !lengths_pass(fixes, answers) {
+                return refusal_number(Refusal::ListLengths);
+            }
+            convert_all(way, image, g, fixes, answers);
+            0
+        }
+        Opened::Refused(r) => refusal_number(r),
+    }
+}
+
+// Question 14.
+fn lengths_pass(fixes: &[i64], answers: &[i64]) -> bool
+    ensures { λ r. ⌜ r ≡ question14 (length (now (fixes .entry))) (length (now (answers .entry))) ⌝ }
+{
+    let n = fixes.len() / 3;
+    if fixes.len() == 3 * n {
+        answers.len() == 5 * n
+    } else {
+        false
+    }
+}
+
+// Converts every fix. The rest of the answer list, from 5 × k onward, is lent on to the writer of the answer to fix k.
+fn convert_all(way: Way, image: &[u8], g: Geometry, fixes: &[i64], answers: &mut [i64])
+    requires { ⌜ (opening (now image) ≡ values g) × (question14 (length (now fixes)) (length (now answers)) ≡ true) ⌝ }
+    ensures { λ _. ⌜ now (answers .exit) ≡ answersOf (wayOf way (sourceOf (gridOf (now (image .entry)) g))) (now (fixes .entry)) ⌝ }
+{
+    let n = fixes.len() / 3;
+    let mut k = 0;
+    while k < n {
+        let at = 3 * k;
+        let latitude = fixes[at];
+        let longitude = fixes[at + 1];
+        let height = fixes[at + 2];
+        let p = Point {
+            latitude,
+            longitude,
+        };
+        let a = convert(way, image, g, p, height);
+        let to = 5 * k;
+        write_answer(&mut answers[to..], a);
+        k += 1;
+    }
+}
+
+// One fix, over an opened image.
+fn convert(way: Way, image: &[u8], g: Geometry, p: Point, height: i64) -> Answer
+    requires { ⌜ opening (now image) ≡ values g ⌝ }
+    ensures { λ r. ⌜ answerOf r ≡ wayOf way (sourceOf (gridOf (now (image .entry)) g)) p height ⌝ }
+{
+    match way {
+        Way::Out => out_over(image, g, p, height),
+        Way::Back => back_over(image, g, p, height),
+    }
+}
+
+// Writes an answer at the front of the rest of the answer list: its values and 0, or four zeros and the number.
+fn write_answer(rest: &mut [i64], a: Answer)
+    requires { ⌜ (5 ≤ length (now rest)) × CountFits (answerOf a) ⌝ }
+    ensures { λ _. ⌜ now (rest .exit) ≡ fiveOf (answerOf a) ++ drop 5 (now (rest .entry)) ⌝ }
+{
+    match a {
+        Answer::Values(p) => {
+            let latitude = p.latitude;
+            let longitude = p.longitude;
+            let height = p.height;
+            let count = p.count as i64;
+            write_five(rest, latitude, longitude, height, count, 0);
+        }
+        Answer::Refused(r) => {
+            let n = refusal_number(r);
+            write_five(rest, 0, 0, 0, 0, n);
+        }
+    }
+}
+
+// Five numbers at the front of the part that is lent; what follows them stays.
+fn write_five(rest: &mut [i64], a: i64, b: i64, c: i64, d: i64, e: i64)
+    requires { ⌜ 5 ≤ length (now rest) ⌝ }
+    ensures { λ _. ⌜ now (rest .exit) ≡ (a ∷ b ∷ c ∷ d ∷ e ∷ []) ++ drop 5 (now (rest .entry)) ⌝ }
+{
+    rest[0] = a;
+    rest[1] = b;
+    rest[2] = c;
+    rest[3] = d;
+    rest[4] = e;
+}
