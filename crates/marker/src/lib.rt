@@ -1,13 +1,63 @@
 // The C interface (include/marker.h): each function checks all that it is given, and leaves what it was lent unchanged where it refuses.
+use fixes::list_back;
+use fixes::list_out;
 use notation::read_notation;
 use notation::write_notation;
 use numbers::refusal_number;
+use rules::Checked;
 use rules::Notation;
 use rules::Reading;
 use rules::Writing;
+use slopes::grid_check;
 ghost use mathlib.Core.Path.{_≡_};
+ghost use lib.IntN.{pos};
+ghost use Rattle.rules.specs.Check.{gridCheck};
+ghost use Rattle.rules.specs.Lists.{listOut, listBack, listAfter, listNumber};
 ghost use Rattle.rules.specs.Notation.{readNotation, writeNotation};
 ghost use Rattle.marker.specs.Calls.{statusOf, findingsAfter, angleAfter, notationAfter};
+
+// The grid check: 0 with the six findings written, or the number.
+#[no_mangle]
+pub extern "C" fn marker_grid_check(image: &[u8], findings: &mut [i64; 6]) -> i64
+    ensures number { λ r. ⌜ r ≡ statusOf (gridCheck (now (image .entry))) ⌝ }
+    ensures findings { λ _. ⌜ now (findings .exit) ≡ findingsAfter (gridCheck (now (image .entry))) (now (findings .entry)) ⌝ }
+{
+    match grid_check(image) {
+        Checked::Passed(f) => {
+            let latitude = f.latitude;
+            let longitude = f.longitude;
+            let height = f.height;
+            *findings = [
+                latitude.north as i64,
+                latitude.east as i64,
+                longitude.north as i64,
+                longitude.east as i64,
+                height.north as i64,
+                height.east as i64,
+            ];
+            0
+        }
+        Checked::Refused(r) => refusal_number(r),
+    }
+}
+
+// All fixes out: 0 with every answer written, or the number of the question that left the answers unchanged.
+#[no_mangle]
+pub extern "C" fn marker_list_out(image: &[u8], fixes: &[i64], answers: &mut [i64]) -> i64
+    ensures number { λ r. ⌜ r ≡ pos (listNumber (listOut (now (image .entry)) (now (fixes .entry)) (now (answers .entry)))) ⌝ }
+    ensures answers { λ _. ⌜ now (answers .exit) ≡ listAfter (listOut (now (image .entry)) (now (fixes .entry)) (now (answers .entry))) (now (answers .entry)) ⌝ }
+{
+    list_out(image, fixes, answers)
+}
+
+// All fixes back, likewise.
+#[no_mangle]
+pub extern "C" fn marker_list_back(image: &[u8], fixes: &[i64], answers: &mut [i64]) -> i64
+    ensures number { λ r. ⌜ r ≡ pos (listNumber (listBack (now (image .entry)) (now (fixes .entry)) (now (answers .entry)))) ⌝ }
+    ensures answers { λ _. ⌜ now (answers .exit) ≡ listAfter (listBack (now (image .entry)) (now (fixes .entry)) (now (answers .entry))) (now (answers .entry)) ⌝ }
+{
+    list_back(image, fixes, answers)
+}
 
 // The angle of a notation, in nd.
 #[no_mangle]

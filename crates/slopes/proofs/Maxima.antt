@@ -1,6 +1,7 @@
 -- The walk over all rows finds the largest steps: each of the six is a fold of `max` over the nodes, and setting a node beside the one before it,
 -- the first beside itself, gives the steps from each to the next.
 use mathlib.Core.Bool.{true}
+use mathlib.Core.List.{List}
 use mathlib.Core.Path.{_≡_, refl, ap, _∙_}
 use Prim.Native.Nat.{ℕ, zero, suc, _+_, _-_, _≤_, _<_, max}
 use native.Mathlib.Omega.{arith}
@@ -9,8 +10,11 @@ use Rattle.integers.specs.Difference.{var, _⊖_}
 use Rattle.integers.specs.Distance.{abs-is}
 use Rattle.rules.specs.declared.Geometry.{Geometry}
 use Rattle.rules.specs.declared.Findings.{Findings}
-use Rattle.rules.specs.Image.{Grid, nodeAt, rows, columns}
-use Rattle.rules.specs.Check.{allPass, largest, stepNorth, stepEast, stepsOf, findingsOf}
+use Rattle.rules.specs.Answers.{values}
+use Rattle.rules.specs.Image.{Grid, gridOf, nodeAt, rows, columns}
+use Rattle.rules.specs.Questions.{opening}
+use Rattle.rules.specs.Check.{allPass, largest, stepNorth, stepEast, stepsOf, question12, findingsOf, check, gridCheck}
+use Rattle.rules.proofs.Opening.{asked, followed}
 use Rattle.rules.proofs.Over.{largest-none, largest-steps}
 use Rattle.rules.proofs.Limits.{node-within}
 use Rattle.rules.proofs.Slopes.{all-pass-at, north-most, east-most}
@@ -84,3 +88,14 @@ found-small g h =
       longitude-most = steps-small (g .geometry) (g .longitude) (λ row column i j. node-within _ (all-pass-at g h row column i j) .longitude);
       height-most = steps-small (g .geometry) (g .height) (λ row column i j. omega (arith, node-within _ (all-pass-at g h row column i j) .height));
     }
+
+-- The findings of a passed check are small.
+pub passed-small : (b : List ℕ) (f : Findings) → gridCheck b ≡ values f → FindingsWithin 20000000 f
+unfolding gridCheck check
+passed-small b f h =
+    let o = followed (opening b) _ f h in
+    let d = gridOf b (o .0) in
+    let a = asked (allPass d) 9 _ f (o .2) in
+    let q = asked (question12 (o .0) (findingsOf d)) 12 _ f (a .1) in
+    let e : findingsOf d ≡ f = cc (q .1) in
+    rw e at (found-small d (a .0))
