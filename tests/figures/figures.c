@@ -1,0 +1,121 @@
+/* The figures of document 01, starred and unstarred, each by name, put to the built library. Prints `ok NAME` or `FAILED NAME`. */
+#include <inttypes.h>
+#include <stdio.h>
+#include <string.h>
+
+#include "marker.h"
+
+#define SOUTH INT64_C(52000000000)
+#define WEST INT64_C(5000000000)
+#define SIZE 148
+
+static int failures = 0;
+
+static void tell(const char *name, bool right) {
+    printf("%s figure: %s\n", right ? "ok" : "FAILED", name);
+    failures += right ? 0 : 1;
+}
+
+/* A number of so many bytes, the lowest first. */
+static uint8_t *put(uint8_t *at, int64_t value, int bytes) {
+    for (int i = 0; i < bytes; i++) {
+        *at++ = (uint8_t)((uint64_t)value >> (8 * i));
+    }
+    return at;
+}
+
+/* Grid G with other corrections: latitude by row, longitude by a first value and a step for each column. */
+static void grid(uint8_t image[SIZE], const int64_t latitude[3], int64_t longitude, int64_t step) {
+    uint8_t *at = image;
+    for (int row = 0; row < 3; row++) {
+        for (int column = 0; column < 3; column++) {
+            at = put(at, latitude[row], 4);
+            at = put(at, longitude + step * column, 4);
+            at = put(at, 430000 + 5 * column, 4);
+        }
+    }
+    at = put(put(at, SOUTH, 8), WEST, 8);
+    at = put(put(put(put(at, 1000, 4), 1000, 4), 3, 4), 3, 4);
+    put(put(at, SIZE, 4), 1, 4);
+}
+
+typedef int64_t way(const uint8_t *, size_t, const int64_t *, size_t, int64_t *, size_t);
+
+/* One fix by its offsets from the south-west corner: is the answer these values, by their offsets too? */
+static bool gives(way *convert, const uint8_t *image, const int64_t fix[3], const int64_t values[4]) {
+    int64_t given[3] = {SOUTH + fix[0], WEST + fix[1], fix[2]};
+    int64_t wanted[5] = {SOUTH + values[0], WEST + values[1], values[2], values[3], 0};
+    int64_t answer[5];
+    return convert(image, SIZE, given, 3, answer, 5) == 0 && memcmp(answer, wanted, sizeof wanted) == 0;
+}
+
+static bool refuses(way *convert, const uint8_t *image, const int64_t fix[3], int64_t number) {
+    int64_t given[3] = {SOUTH + fix[0], WEST + fix[1], fix[2]};
+    int64_t wanted[5] = {0, 0, 0, 0, number};
+    int64_t answer[5];
+    return convert(image, SIZE, given, 3, answer, 5) == 0 && memcmp(answer, wanted, sizeof wanted) == 0;
+}
+
+static bool passes(const uint8_t *image, const int64_t wanted[6]) {
+    int64_t findings[6];
+    return marker_grid_check(image, SIZE, findings) == 0 && memcmp(findings, wanted, sizeof findings) == 0;
+}
+
+static bool check_refuses(const uint8_t *image, int64_t number) {
+    int64_t findings[6] = {7, 7, 7, 7, 7, 7};
+    return marker_grid_check(image, SIZE, findings) == number && findings[0] == 7 && findings[5] == 7;
+}
+
+static bool writes(int64_t nd, uint64_t degrees, uint64_t minutes, uint64_t fraction, char letter) {
+    uint64_t wanted[4] = {degrees, minutes, fraction, (uint64_t)letter};
+    uint64_t notation[4];
+    return marker_write_notation(false, nd, notation) == 0 && memcmp(notation, wanted, sizeof wanted) == 0;
+}
+
+static void figures_of_g(void) {
+    uint8_t g[SIZE];
+    grid(g, (int64_t[]){100, 104, 108}, -50, 0);
+    tell("back (500, 500)", gives(marker_list_back, g, (int64_t[]){500, 500, 10000}, (int64_t[]){602, 450, 440003, 1}));
+    tell("out (602, 450)", gives(marker_list_out, g, (int64_t[]){602, 450, 440003}, (int64_t[]){500, 500, 10000, 2}));
+    tell("back (2000, 2000)", gives(marker_list_back, g, (int64_t[]){2000, 2000, 0}, (int64_t[]){2108, 1950, 430010, 1}));
+    tell("back (2001, 2000) gives 8", refuses(marker_list_back, g, (int64_t[]){2001, 2000, 0}, 8));
+    tell("back (125, 0): 100.5 gives 101", gives(marker_list_back, g, (int64_t[]){125, 0, 0}, (int64_t[]){226, -50, 430000, 1}));
+    tell("out (50, 500) gives 10", refuses(marker_list_out, g, (int64_t[]){50, 500, 0}, 10));
+    tell("out (2050, 500) gives 8", refuses(marker_list_out, g, (int64_t[]){2050, 500, 0}, 8));
+    tell("G passes with 4 0 0 0 0 5", passes(g, (int64_t[]){4, 0, 0, 0, 0, 5}));
+}
+
+static void figures_of_variants(void) {
+    uint8_t image[SIZE];
+    grid(image, (int64_t[]){100, 104, 108}, -100, -1);
+    tell("(0, 500) gives -100", gives(marker_list_back, image, (int64_t[]){0, 500, 0}, (int64_t[]){100, 400, 430003, 1}));
+    tell("(0, 700) gives -101", gives(marker_list_back, image, (int64_t[]){0, 700, 0}, (int64_t[]){100, 599, 430004, 1}));
+    grid(image, (int64_t[]){0, 1000, 2000}, 0, 0);
+    tell("0, 1000, 2000: out (1500, 500) gives 11", refuses(marker_list_out, image, (int64_t[]){1500, 500, 0}, 11));
+    tell("0, 1000, 2000: the check gives 12", check_refuses(image, 12));
+    grid(image, (int64_t[]){100, 110, 120}, -50, 0);
+    tell("100, 110, 120: out (602, 450) gives 497", gives(marker_list_out, image, (int64_t[]){602, 450, 440003}, (int64_t[]){497, 500, 10000, 2}));
+    tell("100, 110, 120 pass", passes(image, (int64_t[]){10, 0, 0, 0, 0, 5}));
+    grid(image, (int64_t[]){100, 111, 122}, -50, 0);
+    tell("100, 111, 122 give 12", check_refuses(image, 12));
+    grid(image, (int64_t[]){100, 104, 108}, -50, 0);
+    put(image + 48, 10000001, 4);
+    tell("one node with 10,000,001 gives 9", check_refuses(image, 9));
+}
+
+static void figures_of_notation(void) {
+    int64_t nd = 0;
+    bool read = marker_read_notation(false, 52, 5, 2987000, 'N', &nd) == 0;
+    tell("52 5 29.87000 N is 52,091,630,556", read && nd == INT64_C(52091630556));
+    tell("52,091,630,556 is written so again", writes(INT64_C(52091630556), 52, 5, 2987000, 'N'));
+    tell("16,666,666 is 0 1 0.00000", writes(16666666, 0, 1, 0, 'N'));
+    tell("16,666,665 is 0 0 59.99999", writes(16666665, 0, 0, 5999999, 'N'));
+    tell("-1 is 0 0 0.00000 S", writes(-1, 0, 0, 0, 'S'));
+}
+
+int main(void) {
+    figures_of_g();
+    figures_of_variants();
+    figures_of_notation();
+    return failures == 0 ? 0 : 1;
+}
