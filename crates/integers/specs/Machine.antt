@@ -1,17 +1,17 @@
 -- Signed machine integers on the parts: ranges, tests, and what the machine reads back from a number's bits.
-use mathlib.Core.Path.{_≡_, refl, sym, ap, subst, _∙_}
+use mathlib.Core.Path.{_≡_, refl, sym, subst}
 use mathlib.Core.Bool.{Bool, true, false, not}
 use Prim.Native.Nat.{ℕ, suc, _+_, _^_, _≤_, _<_, max}
 use native.Mathlib.Omega.{arith}
-use lib.Dec.{T, ltb, eqb, nleb→lt}
-use lib.IntN.{ℤ, pos, negsuc, natAbs, _+ℤ_, _-ℤ_, _*ℤ_}
-use lib.Signed.{mag, nonNeg, _≤ℤ_, leZ, ltZ, leZ-yes, ltZ-yes, ltZ-no}
+use lib.Dec.{T, nleb→lt}
+use lib.IntN.{ℤ, pos, negsuc, natAbs, _+ℤ_, _-ℤ_}
+use lib.Signed.{mag, nonNeg, leZ, ltZ, leZ-yes, ltZ-yes, ltZ-no}
 use mir.Syntax.{Width, w64}
-use mir.Val.{Fits, SFits, toZ, ofZ, bits, hbits}
-use mir.Facts.{toZ-ofZ, toZ-pos, fits-natAbs}
+use mir.Val.{SFits, toZ, ofZ, hbits}
+use mir.Facts.{toZ-ofZ, toZ-pos}
 use borrow.Author.Tests.{ltb-true, ltb-false, leb-true, leb-false, lt-ltb, le-ltb, le-leb, lt-leb, eqb-true, eqb-false, eq-eqb, ne-eqb}
 use Rattle.integers.specs.Difference.{up, down, order, ≤ℤ-parts, <ℤ-parts, parts-≤ℤ, parts-<ℤ, Difference, var, _⊕_, _⊖_}
-use Rattle.integers.specs.Distance.{size, abs-is}
+use Rattle.integers.specs.Distance.{size}
 
 -- A range for `omega` to find by itself: with no case to split, it leaves open the one number 2 ^ hbits above the range
 pub sfits-parts : (w : Width) (z : ℤ) → SFits w z → up z + down z ≤ 2 ^ hbits w
@@ -77,20 +77,6 @@ is-leZ x y h = to-true (leZ x y) (parts-≤ℤ x y h .le)
 pub not-leZ : (x y : ℤ) → up y + down x < up x + down y → leZ x y ≡ false
 not-leZ x y h = to-false (leZ x y) (λ t. let k = ≤ℤ-parts x y (leZ-yes t) in omega arith)
 
-pub lt-not-le : (x y : ℤ) → leZ y x ≡ not (ltZ x y)
-lt-not-le x y = by (ltZ x y) refl
-  where
-    by : (b : Bool) → ltZ x y ≡ b → leZ y x ≡ not b
-    by true e = not-leZ y x (ltZ-true x y e)
-    by false e = is-leZ y x (ltZ-false x y e)
-
--- two tests are one where each holds when the other does
-pub same-test : (a b : Bool) → (a ≡ true → b ≡ true) × (b ≡ true → a ≡ true) → a ≡ b
-same-test true true p = refl
-same-test true false p = sym (p .0 refl)
-same-test false true p = p .1 refl
-same-test false false p = refl
-
 -- not negative, as a cast to an unsigned type asks
 pub is-nonNeg : (z : ℤ) → down z ≤ up z → T (nonNeg z)
 is-nonNeg (pos n) h = tt
@@ -116,34 +102,9 @@ got w z h = back (record { sfits = h }) (var z)
 abbrev pub small : (w : Width) (n : ℕ) → n < 2 ^ hbits w → Difference (toZ w n)
 small w n h = record { hi = n; lo = 0; is = subst (λ (y : ℤ). up y + 0 ≡ n + down y) (sym (toZ-pos w h)) refl }
 
--- ---- a test of two signed numbers that fit, as the code leaves it, on the numbers themselves
-module _ {w : Width} {x y : ℤ} (fx : SFits w x) (fy : SFits w y) {b : Bool} where
-  pub plain-lt : ltZ (toZ w (ofZ w x)) (toZ w (ofZ w y)) ≡ b → ltZ x y ≡ b
-  plain-lt e = simp (toZ-ofZ fx, toZ-ofZ fy) at e
-
-  pub plain-le : leZ (toZ w (ofZ w x)) (toZ w (ofZ w y)) ≡ b → leZ x y ≡ b
-  plain-le e = simp (toZ-ofZ fx, toZ-ofZ fy) at e
-
-  -- a test that is written the other way round than a clause has it
-  pub turned-lt : ltZ (toZ w (ofZ w x)) (toZ w (ofZ w y)) ≡ b → leZ y x ≡ not b
-  turned-lt e = lt-not-le x y ∙ ap not (plain-lt e)
-
--- ---- equality of two signed numbers: the machine compares their bits
-module _ {w : Width} {x y : ℤ} (fx : SFits w x) (fy : SFits w y) where
-  pub eq-bits : ofZ w x ≡ ofZ w y → x ≡ y
-  eq-bits e = sym (toZ-ofZ fx) ∙ ap (toZ w) e ∙ toZ-ofZ fy
-
-  pub eqb-bits : eqb (ofZ w x) (ofZ w y) ≡ eqb (natAbs (x -ℤ y)) 0
-  eqb-bits = same-test _ _ (to, from)
-    where
-      to : eqb (ofZ w x) (ofZ w y) ≡ true → eqb (natAbs (x -ℤ y)) 0 ≡ true
-      to t = let e = eq-bits (eqb-true _ _ t) in eq-eqb (natAbs (x -ℤ y)) 0 (omega (arith, order, abs-is (var x ⊖ var y)))
-
-      from : eqb (natAbs (x -ℤ y)) 0 ≡ true → eqb (ofZ w x) (ofZ w y) ≡ true
-      from t =
-          let h = eqb-true (natAbs (x -ℤ y)) 0 t in
-          let e : x ≡ y = omega (arith, order, size (x -ℤ y), var x ⊖ var y) in
-          eq-eqb _ _ (ap (ofZ w) e)
+-- A test of two signed numbers that fit, as the code leaves it, on the numbers themselves.
+pub plain-le : {w : Width} {x y : ℤ} → SFits w x → SFits w y → {b : Bool} → leZ (toZ w (ofZ w x)) (toZ w (ofZ w y)) ≡ b → leZ x y ≡ b
+plain-le fx fy e = simp (toZ-ofZ fx, toZ-ofZ fy) at e
 
 -- the signed result z of a call: `kept w64 (c .f .result) (c .f .ok)`
 pub kept : (w : Width) (z : ℤ) → mag z < 2 ^ hbits w → toZ w (ofZ w z) ≡ z
@@ -162,16 +123,6 @@ module _ {w : Width} {x y : ℤ} (fx : SFits w x) (fy : SFits w y) where
 
   pub sub-back : SFits w (x -ℤ y) → toZ w (ofZ w (toZ w (ofZ w x) -ℤ toZ w (ofZ w y))) ≡ x -ℤ y
   sub-back f = simp (toZ-ofZ fx, toZ-ofZ fy, toZ-ofZ f)
-
-  pub mul-fits : SFits w (x *ℤ y) → SFits w (toZ w (ofZ w x) *ℤ toZ w (ofZ w y))
-  mul-fits f = simp (toZ-ofZ fx, toZ-ofZ fy) f
-
-  pub mul-back : SFits w (x *ℤ y) → toZ w (ofZ w (toZ w (ofZ w x) *ℤ toZ w (ofZ w y))) ≡ x *ℤ y
-  mul-back f = simp (toZ-ofZ fx, toZ-ofZ fy, toZ-ofZ f)
-
-  -- the difference of two ordered numbers, cast to an unsigned type as wide or wider: `gap-cast (f .x) (f .y) tt ..`
-  pub gap-cast : {w′ : Width} → T (ltb (hbits w) (bits w′)) → y ≤ℤ x → SFits w (x -ℤ y) → T (nonNeg (toZ w (ofZ w (toZ w (ofZ w x) -ℤ toZ w (ofZ w y))))) × Fits w′ (natAbs (toZ w (ofZ w (toZ w (ofZ w x) -ℤ toZ w (ofZ w y)))))
-  gap-cast t h f = rw (sub-back f) (is-nonNeg (x -ℤ y) (omega (arith, order, var x ⊖ var y)), fits-natAbs t f)
 
 -- Sums and differences of numbers within 10^18 of zero fit 64 bits, and are read back as they are.
 small-fits : (x : ℤ) → natAbs x ≤ 1000000000000000000 → SFits w64 x

@@ -1,12 +1,11 @@
 -- Division of an integer by a natural above zero, rounded down, and the exact quotient plus one half, rounded down.
-use mathlib.Core.Path.{_≡_, ap}
+use mathlib.Core.Path.{_≡_}
 use Prim.Native.Nat.{ℕ, _+_, _*_, _/_, _≤_, _<_}
-use native.Mathlib.Nat.{mul-div-le, lt-mul-div-succ, lt-of-mul-lt-mul-left, mul-le-mul-left}
+use native.Mathlib.Nat.{mul-div-le, lt-mul-div-succ, lt-of-mul-lt-mul-left}
 use native.Mathlib.Omega.{arith}
-use lib.IntN.{ℤ, pos, negsuc, natAbs, _+ℤ_, _-ℤ_, _*ℤ_}
-use lib.Signed.{_≤ℤ_, _<ℤ_}
+use lib.IntN.{ℤ, pos, negsuc, natAbs, _+ℤ_, _*ℤ_}
 use Rattle.integers.specs.Difference.{up, down, order, var, lit, _⊕_, _⊗_}
-use Rattle.integers.specs.Distance.{Near, near-abs, abs-near, abs-is}
+use Rattle.integers.specs.Distance.{Near, abs-is}
 
 -- z / d rounded down: of −(n + 1) that is −(n / d + 1)
 abbrev pub floorDiv : ℤ → ℕ → ℤ
@@ -22,26 +21,13 @@ pub floor-of : (z : ℤ) (d : ℕ) → 0 < d → Floor d z (floorDiv z d)
 floor-of (pos a) d h = omega (arith, mul-div-le a d, lt-mul-div-succ a h)
 floor-of (negsuc a) d h = omega (arith, mul-div-le a d, lt-mul-div-succ a h)
 
--- the characterisation as it reads on ℤ, both ways
-pub floor-≤ : {d : ℕ} {z q : ℤ} → Floor d z q → (pos d *ℤ q) ≤ℤ z
-floor-≤ {d} {z} {q} f = omega (arith, order, lit d ⊗ var q)
-
-pub floor-< : {d : ℕ} {z q : ℤ} → Floor d z q → z <ℤ (pos d *ℤ (q +ℤ pos 1))
-floor-< {d} {z} {q} f = omega (arith, order, lit d ⊗ (var q ⊕ lit 1))
-
-pub floor-by : (d : ℕ) (z q : ℤ) → (pos d *ℤ q) ≤ℤ z → z <ℤ (pos d *ℤ (q +ℤ pos 1)) → Floor d z q
-floor-by d z q h k = omega (arith, order, lit d ⊗ var q, lit d ⊗ (var q ⊕ lit 1))
-
 -- z' is at most d·m above z, so its quotient is at most m above
 pub floor-step : {d : ℕ} {z z' q q' : ℤ} (m : ℕ) → Floor d z q → Floor d z' q' → up z' + down z ≤ up z + down z' + d * m → up q' + down q ≤ up q + down q' + m
 floor-step {d} {z} {z'} {q} {q'} m f g h =
     let k : up q' + down q < up q + down q' + m + 1 = lt-of-mul-lt-mul-left d (omega arith) in
     omega arith
 
-pub floor-mono : {d : ℕ} {z z' q q' : ℤ} → Floor d z q → Floor d z' q' → z ≤ℤ z' → q ≤ℤ q'
-floor-mono {d} {z} {z'} {q} {q'} f g h = omega (arith, order, floor-step 0 g f (omega (arith, order)))
-
-pub floor-near : {d : ℕ} {z z' q q' : ℤ} (m : ℕ) → Floor d z q → Floor d z' q' → Near (d * m) z z' → Near m q q'
+floor-near : {d : ℕ} {z z' q q' : ℤ} (m : ℕ) → Floor d z q → Floor d z' q' → Near (d * m) z z' → Near m q q'
 floor-near m f g n = omega (arith, floor-step m f g (omega arith), floor-step m g f (omega arith))
 
 pub floor-unique : {d : ℕ} {z q q' : ℤ} → Floor d z q → Floor d z q' → q ≡ q'
@@ -49,22 +35,6 @@ floor-unique {d} {z} {q} {q'} f g = omega (arith, order, floor-step 0 f g (omega
 
 pub floorDiv-is : {d : ℕ} {z q : ℤ} → 0 < d → Floor d z q → floorDiv z d ≡ q
 floorDiv-is {d} {z} h f = floor-unique (floor-of z d h) f
-
-pub floorDiv-add : (z k : ℤ) (d : ℕ) → 0 < d → floorDiv (z +ℤ pos d *ℤ k) d ≡ floorDiv z d +ℤ k
-floorDiv-add z k d h =
-    let f : Floor d z (floorDiv z d) = floor-of z d h in
-    let g : Floor d (z +ℤ pos d *ℤ k) (floorDiv z d +ℤ k) = omega (arith, var z ⊕ lit d ⊗ var k, lit d ⊗ var (floorDiv z d +ℤ k), lit d ⊗ (var (floorDiv z d) ⊕ var k)) in
-    floorDiv-is h g
-
-pub floorDiv-mono : (z z' : ℤ) (d : ℕ) → 0 < d → z ≤ℤ z' → floorDiv z d ≤ℤ floorDiv z' d
-floorDiv-mono z z' d h = floor-mono (floor-of z d h) (floor-of z' d h)
-
--- by the sign, as code divides the size
-pub floorDiv-pos : {z : ℤ} {n : ℕ} (d : ℕ) → z ≡ pos n → floorDiv z d ≡ pos (n / d)
-floorDiv-pos d e = ap (λ (y : ℤ). floorDiv y d) e
-
-pub floorDiv-neg : {z : ℤ} {n : ℕ} (d : ℕ) → z ≡ negsuc n → floorDiv z d ≡ negsuc (n / d)
-floorDiv-neg d e = ap (λ (y : ℤ). floorDiv y d) e
 
 -- num / den plus one half, rounded down
 unfoldable pub roundHalfUp : ℤ → ℕ → ℤ
@@ -89,43 +59,14 @@ pub round-is : {num r : ℤ} {den : ℕ} → 0 < den → Round den num r → rou
 unfolding roundHalfUp
 round-is {num} {r} {den} h f = floorDiv-is (omega arith) (to-floor den num r f)
 
--- |den·round − num| ≤ den / 2
-pub round-near : (num : ℤ) (den : ℕ) → 0 < den → Near (den / 2) (pos den *ℤ roundHalfUp num den) num
-round-near num den h =
-    let f : Round den num (roundHalfUp num den) = round-of num den h in
-    omega (arith, lit den ⊗ var (roundHalfUp num den))
-
 pub round-close : (num num' : ℤ) (den m : ℕ) → 0 < den → Near (den * m) num num' → Near m (roundHalfUp num den) (roundHalfUp num' den)
 round-close num num' den m h n =
     let f = round-of num den h in
     let g = round-of num' den h in
     floor-near m (to-floor den num _ f) (to-floor den num' _ g) (omega (arith, lit 2 ⊗ var num ⊕ lit den, lit 2 ⊗ var num' ⊕ lit den))
 
-pub round-step : (num num' : ℤ) (den D : ℕ) → 0 < den → 100 * natAbs (num -ℤ num') ≤ den * D → natAbs (roundHalfUp num den -ℤ roundHalfUp num' den) ≤ (D + 99) / 100
-round-step num num' den D h k =
-    let m = (D + 99) / 100 in
-    let l : D ≤ 100 * m = omega arith in
-    let n : natAbs (num -ℤ num') ≤ den * m = omega (arith, mul-le-mul-left den l) in
-    near-abs m _ _ (round-close num num' den m h (abs-near (den * m) num num' n))
-
 pub round-zero : (den : ℕ) → 0 < den → roundHalfUp (pos 0) den ≡ pos 0
 round-zero den h = round-is h (omega arith)
-
-pub round-add : (num k : ℤ) (den : ℕ) → 0 < den → roundHalfUp (num +ℤ pos den *ℤ k) den ≡ roundHalfUp num den +ℤ k
-round-add num k den h =
-    let f : Round den num (roundHalfUp num den) = round-of num den h in
-    let g : Round den (num +ℤ pos den *ℤ k) (roundHalfUp num den +ℤ k) = omega (arith, var num ⊕ lit den ⊗ var k, lit den ⊗ var (roundHalfUp num den +ℤ k), lit den ⊗ (var (roundHalfUp num den) ⊕ var k)) in
-    round-is h g
-
-pub round-exact : (k : ℤ) (den : ℕ) → 0 < den → roundHalfUp (pos den *ℤ k) den ≡ k
-round-exact k den h =
-    let g : Round den (pos den *ℤ k) k = omega (arith, lit den ⊗ var k) in
-    round-is h g
-
-pub round-mono : (num num' : ℤ) (den : ℕ) → 0 < den → num ≤ℤ num' → roundHalfUp num den ≤ℤ roundHalfUp num' den
-round-mono num num' den h l =
-    floor-mono (to-floor den num _ (round-of num den h)) (to-floor den num' _ (round-of num' den h))
-    (omega (arith, order, lit 2 ⊗ var num ⊕ lit den, lit 2 ⊗ var num' ⊕ lit den))
 
 pub round-bound : (num : ℤ) (den M : ℕ) → 0 < den → natAbs num ≤ den * M → natAbs (roundHalfUp num den) ≤ M
 round-bound num den M h k =
