@@ -4,24 +4,18 @@ use mathlib.Core.List.{List, [], _∷_, _++_, append-assoc}
 use mathlib.Core.Path.{_≡_, refl, sym, _∙_}
 use Prim.Native.Nat.{ℕ, zero, suc, _+_, _*_, _-_, _≤_, _<_}
 use native.Mathlib.Omega.{arith}
-use lib.IntN.{ℤ, pos}
-use lib.ListN.{length, getD, take, drop, length-append}
+use lib.IntN.{ℤ}
+use lib.ListN.{length, take, drop, length-append}
 use lib.Seq.{take-all, take-at, take-add, length-take-le, drop-append-add}
 use Rattle.rules.specs.declared.Point.{Point}
 use Rattle.rules.specs.declared.Position.{Position}
 use Rattle.rules.specs.Answers.{Outcome, values, number}
 use Rattle.rules.specs.Lists.{fiveOf, answersOf}
+use Rattle.fixes.specs.Conversion.{pointAt, heightAt}
 
 five-long : (a : Outcome Position) → length (fiveOf a) ≡ 5
 five-long (values p) = refl
 five-long (number n) = refl
-
--- The fix at place k: its point and its height.
-abbrev pub pointAt : List ℤ → ℕ → Point
-pointAt fixes k = record { latitude = getD fixes (3 * k) (pos 0); longitude = getD fixes (3 * k + 1) (pos 0) }
-
-abbrev pub heightAt : List ℤ → ℕ → ℤ
-heightAt fixes k = getD fixes (3 * k + 2) (pos 0)
 
 module _ (convert : Point → ℤ → Outcome Position) where
   pub answers-long : (fixes : List ℤ) (n : ℕ) → length fixes ≡ 3 * n → length (answersOf convert fixes) ≡ 5 * n

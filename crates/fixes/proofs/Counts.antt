@@ -11,7 +11,7 @@ use Rattle.rules.specs.Ways.{Source, question7, minus, settled, Settled, iterat
 use Rattle.rules.proofs.Opening.{asked, followed}
 use Rattle.fixes.specs.declared.Way.{Way}
 use Rattle.fixes.specs.declared.Way.the-variants as way
-use Rattle.fixes.specs.Ways.{wayOf, CountFits}
+use Rattle.fixes.specs.Conversion.{wayOf, CountFits}
 
 iterate-count : (s : Source) (stop : ℕ) (p : Point) (left n : ℕ) (r : Point) (e : Settled) → iterate s stop p left n r ≡ values e → e .count ≤ n + left
 unfolding iterate

@@ -1,4 +1,5 @@
--- Laws of lists of fixes: their content, their lengths, and the counts of their answers.
+-- Laws of lists of fixes: the counts of their answers, their lengths, and their content.
 pub mod Counts
 pub mod Lengths
 pub mod Answers
+pub mod Content

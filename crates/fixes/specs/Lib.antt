@@ -1,1 +1,3 @@
-pub mod Ways
+-- What the contracts of the lists cite, and what they mean for each answer.
+pub mod Conversion
+pub mod Content

@@ -11,7 +11,7 @@ use rules::Refusal;
 ghost use mathlib.Core.Bool.{true};
 ghost use mathlib.Core.List.{_++_, _∷_, []};
 ghost use mathlib.Core.Path.{_≡_};
-ghost use Prim.Native.Nat.{_≤_};
+ghost use Prim.Native.Nat.{_+_, _*_, _≤_, _<_};
 ghost use lib.IntN.{pos};
 ghost use lib.ListN.{length, drop};
 ghost use Rattle.rules.specs.Answers.{values, answerOf};
@@ -19,7 +19,7 @@ ghost use Rattle.rules.specs.Image.{gridOf};
 ghost use Rattle.rules.specs.Questions.{opening};
 ghost use Rattle.rules.specs.Ways.{sourceOf};
 ghost use Rattle.rules.specs.Lists.{fiveOf, answersOf, question14, convertList, listOut, listBack, listAfter, listNumber};
-ghost use Rattle.fixes.specs.Ways.{wayOf, CountFits};
+ghost use Rattle.fixes.specs.Conversion.{wayOf, pointAt, heightAt, CountFits};
 
 // The way that all fixes of a list take.
 pub enum Way {
@@ -80,26 +80,26 @@ fn convert_all(way: Way, image: &[u8], g: Geometry, fixes: &[i64], answers: &mut
     let n = fixes.len() / 3;
     let mut k = 0;
     while k < n {
-        let at = 3 * k;
-        let latitude = fixes[at];
-        let longitude = fixes[at + 1];
-        let height = fixes[at + 2];
-        let p = Point {
-            latitude,
-            longitude,
-        };
-        let a = convert(way, image, g, p, height);
+        let a = convert_fix(way, image, g, fixes, k);
         let to = 5 * k;
         write_answer(&mut answers[to..], a);
         k += 1;
     }
 }
 
-// One fix, over an opened image.
-fn convert(way: Way, image: &[u8], g: Geometry, p: Point, height: i64) -> Answer
-    requires { ⌜ opening (now image) ≡ values g ⌝ }
-    ensures { λ r. ⌜ answerOf r ≡ wayOf way (sourceOf (gridOf (now (image .entry)) g)) p height ⌝ }
+// The answer to fix k, over an opened image.
+fn convert_fix(way: Way, image: &[u8], g: Geometry, fixes: &[i64], k: usize) -> Answer
+    requires { ⌜ (opening (now image) ≡ values g) × (3 * k + 2 < length (now fixes)) ⌝ }
+    ensures { λ r. ⌜ answerOf r ≡ wayOf way (sourceOf (gridOf (now (image .entry)) g)) (pointAt (now (fixes .entry)) k) (heightAt (now (fixes .entry)) k) ⌝ }
 {
+    let at = 3 * k;
+    let latitude = fixes[at];
+    let longitude = fixes[at + 1];
+    let height = fixes[at + 2];
+    let p = Point {
+        latitude,
+        longitude,
+    };
     match way {
         Way::Out => out_over(image, g, p, height),
         Way::Back => back_over(image, g, p, height),

@@ -1,14 +1,11 @@
 -- `fixes::convert_all` meets its contract. The invariant: the first k answers are written. Assumes nothing.
 use mathlib.Core.Path.{_≡_, sym, _∙_}
-use Prim.Native.Nat.{_+_, _*_, _/_, _-_, _≤_}
+use Prim.Native.Nat.{_*_, _/_, _-_, _≤_}
 use native.Mathlib.Omega.{arith}
-use lib.IntN.{pos}
-use lib.ListN.{length, getD, length-take, length-drop}
-use mir.Syntax.{w64}
-use Rattle.integers.specs.Machine.{kept}
+use lib.ListN.{length, length-take, length-drop}
 use Rattle.rules.specs.Image.{gridOf}
 use Rattle.rules.specs.Ways.{sourceOf}
-use Rattle.fixes.specs.Ways.{wayOf}
+use Rattle.fixes.specs.Conversion.{wayOf}
 use Rattle.fixes.proofs.Counts.{count-fits}
 use Rattle.fixes.proofs.Lengths.{same-n}
 use Rattle.fixes.proofs.Answers.{Written, written-none, written-more, written-all}
@@ -25,35 +22,8 @@ abbrev μ-loop : tie.MeasureT-loop
 loop-holds : tie.Need-loop-holds Inv-loop μ-loop
 loop-holds c = (omega arith, same-n _ _ (c .before .pre .1) .1, written-none _ _ _)
 
-mul-at : tie.Need-mul-at Inv-loop μ-loop
-mul-at c = omega arith
-
-mul-latitude : tie.Need-mul-latitude Inv-loop μ-loop
-mul-latitude c = omega arith
-
-shared-slice-copy-out-latitude : tie.Need-shared-slice-copy-out-latitude Inv-loop μ-loop
-shared-slice-copy-out-latitude c = omega arith
-
-add-longitude : tie.Need-add-longitude Inv-loop μ-loop
-add-longitude c = omega arith
-
-mul-longitude : tie.Need-mul-longitude Inv-loop μ-loop
-mul-longitude c = omega arith
-
-shared-slice-copy-out-longitude : tie.Need-shared-slice-copy-out-longitude Inv-loop μ-loop
-shared-slice-copy-out-longitude c = omega arith
-
-add-height : tie.Need-add-height Inv-loop μ-loop
-add-height c = omega arith
-
-mul-height : tie.Need-mul-height Inv-loop μ-loop
-mul-height c = omega arith
-
-shared-slice-copy-out-height : tie.Need-shared-slice-copy-out-height Inv-loop μ-loop
-shared-slice-copy-out-height c = omega arith
-
-convert-requires : tie.Need-convert-requires Inv-loop μ-loop
-convert-requires c κs = c .before .before .before .before .before .before .pre .0
+convert-fix-requires : tie.Need-convert-fix-requires Inv-loop μ-loop
+convert-fix-requires c κs = (c .before .before .before .pre .0, omega arith)
 
 mul-to : tie.Need-mul-to Inv-loop μ-loop
 mul-to c = omega arith
@@ -71,8 +41,7 @@ part-write-answer-end : tie.Need-part-write-answer-end Inv-loop μ-loop
 part-write-answer-end c = omega arith
 
 write-answer-requires : tie.Need-write-answer-requires Inv-loop μ-loop
-write-answer-requires c κs =
-    (simp (length-take, length-drop) (omega arith), count-fits _ _ _ _ _ (c .before .convert .ensures))
+write-answer-requires c κs = (simp (length-take, length-drop) (omega arith), count-fits _ _ _ _ _ (c .before .convert-fix .ensures))
 
 add-k : tie.Need-add-k Inv-loop μ-loop
 add-k c = omega arith
@@ -83,19 +52,10 @@ loop-less c = omega arith
 loop-again : tie.Need-loop-again Inv-loop μ-loop
 loop-again c =
     let v = c .before .before .before in
-    let l = v .before .before .before .before .before in
-    let f = l .before .before .args .fixes .now in
-    let k = l .loop .k in (
+    let l = v .before .before .loop in (
       omega arith,
-      c .answers .given .1 ∙ l .loop .inv .1,
-      written-more _ _ _ _ _ _ _ _ (omega arith) (omega arith) (c .before .write-answer .ensures)
-          (v .convert .ensures
-          ∙ simp (
-            kept w64 (getD f (3 * k) (pos 0)) (v .before .before .before .latitude .given),
-            kept w64 (getD f (3 * k + 1) (pos 0)) (v .before .before .longitude .given),
-            kept w64 (getD f (3 * k + 2) (pos 0)) (v .before .height .given),
-          ))
-          (l .loop .inv .2),
+      c .answers .given .1 ∙ l .inv .1,
+      written-more _ _ _ _ _ _ _ _ (omega arith) (omega arith) (c .before .write-answer .ensures) (v .convert-fix .ensures) (l .inv .2),
     )
 
 same-length : tie.Need-same-length Inv-loop μ-loop
@@ -115,16 +75,7 @@ convert-all-spec =
     Inv-loop
     μ-loop
     loop-holds
-    mul-at
-    mul-latitude
-    shared-slice-copy-out-latitude
-    add-longitude
-    mul-longitude
-    shared-slice-copy-out-longitude
-    add-height
-    mul-height
-    shared-slice-copy-out-height
-    convert-requires
+    convert-fix-requires
     mul-to
     mul-write-answer
     sub-write-answer

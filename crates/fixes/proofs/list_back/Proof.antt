@@ -1,9 +1,8 @@
 -- `fixes::list_back` meets its contract: the list call of this way. Assumes nothing.
-use borrow.Author.Needs.{needs}
 use mir.Syntax.{w64}
 use Rattle.integers.specs.Machine.{kept}
 use Rattle.rules.specs.Lists.{listBack}
-use Rattle.fixes.specs.Ways.{wayOf}
+use Rattle.fixes.specs.Conversion.{wayOf}
 use Rattle.fixes.proofs.list_back.Statement.{statement}
 use Rattle.fixes.proofs.list_back.Tie as tie
 
@@ -14,4 +13,4 @@ returns c =
     (rw (kept w64 (l .result) (l .ok)) (l .ensures .0), l .ensures .1)
 
 pub list-back-spec : {M : Type 1} → statement M
-list-back-spec = tie.close (tie.spec (λ c κs. search needs) (λ c. search needs) returns)
+list-back-spec = tie.close (tie.spec (λ c κs. tt) (λ c. c .answers .given) returns)

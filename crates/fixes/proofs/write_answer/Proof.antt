@@ -42,11 +42,11 @@ write-answer-spec =
     (tie.spec
     (λ c. search needs)
     cast-count
-    (λ c κs. search needs)
+    (λ c κs. c .before .before .before .before .before .before .before .before .pre .0)
     (λ c. search needs)
-    (λ c κs. search needs)
-    (λ c κs. search needs)
-    (λ c. search needs)
+    (λ c κs. tt)
+    (λ c κs. c .before .before .before .before .before .pre .0)
+    (λ c. c .rest .given)
     returns
-    (λ c. search needs)
+    (λ c. c .rest2 .given)
     returns-2)
