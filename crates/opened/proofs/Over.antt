@@ -4,7 +4,7 @@
 --     own-clauses, its-clauses their contracts, over what is asked (Ask) and what is told (Tell) of the bytes, the geometry, the struct and the result
 --     over                     the theorem
 -- `over` takes `Given`, by its tables. The rest assumes nothing.
-use mathlib.Core.Path.{_≡_, refl}
+use mathlib.Core.Path.{refl}
 use Prim.Native.Nat.{ℕ}
 use mathlib.Core.List.{List, [], _∷_}
 use lib.Dec.{T as Holds}
@@ -25,7 +25,7 @@ use denote.RattleType.{owns}
 use denote.Laws.{Is, shows}
 use denote.Builtin.{u8, SliceRefOf}
 use denote.Exit.{yes}
-use denote.Ref.{RefT, now}
+use denote.Ref.{now}
 use denote.Signature.{plain}
 use denote.Slice.{sliceVal, ShrSlice}
 use denote.Steps.{peeks}
