@@ -75,3 +75,11 @@ module _ (s n u p q t left : ℕ) (et : t ≡ mix (s / q) (n / q) u p) (el : lef
       sym
       (ap (λ (x : ℕ). x / (2 * (p * q))) {x = 2 * mix s n u p + p * q} {y = t / p * (2 * (p * q)) + (2 * rest + p * q)} (omega (arith, split))
       ∙ mul-add-div-right (omega arith) (t / p) (2 * rest + p * q))
+
+-- The quotient is k, where n is at least k and below k + 1 divisors.
+pub quotient-of : (k n d : ℕ) → 0 < d → k * d ≤ n → n < suc k * d → n / d ≡ k
+quotient-of k n d h l m = omega (arith, le-div-iff-mul-le {k = d} h .1 l, div-lt-iff-lt-mul {k = d} {y = suc k} h .1 m)
+
+-- Of at most two areas, the rounded quotient is at most 2.
+pub quotient-most : (rest area : ℕ) → 0 < area → rest ≤ 2 * area → (2 * rest + area) / (2 * area) ≤ 2
+quotient-most rest area h l = le-of-suc-le-suc (div-lt-iff-lt-mul {k = 2 * area} {y = 3} (omega arith) .1 (omega arith))

@@ -1,7 +1,7 @@
 // The bilinear value of document 01, exact in 64 bits, and the cell of a point along an axis.
 use rules::Axis;
 ghost use mathlib.Core.Path.{_≡_};
-ghost use Prim.Native.Nat.{_≤_, min};
+ghost use Prim.Native.Nat.{_+_, _*_, _/_, _≤_, _<_, min};
 ghost use lib.IntN.{pos, natAbs, _+ℤ_};
 ghost use Rattle.rules.specs.Questions.{Sized};
 ghost use Rattle.rules.specs.Bilinear.{cellOf, partOf, squareOf, bilinear};
@@ -85,6 +85,19 @@ fn divided(s: u64, n: u64, u: u64, p: u64, q: u64) -> u64
     let t = blend(s / q, n / q, u, p);
     let left = blend(s % q, n % q, u, p);
     let rest = t % p * q + left;
-    let area = p * q;
-    t / p + (2 * rest + area) / (2 * area)
+    t / p + rounded(rest, p * q)
+}
+
+// rest / area plus one half, rounded down, where rest is at most two areas: comparing is quicker than dividing.
+fn rounded(rest: u64, area: u64) -> u64
+    requires { ⌜ (0 < area) × (area ≤ 10000000000000000) × (rest ≤ 2 * area) ⌝ }
+    ensures { λ r. ⌜ r ≡ (2 * rest + area) / (2 * area) ⌝ }
+{
+    if 2 * rest < area {
+        return 0;
+    }
+    if 2 * rest < 3 * area {
+        return 1;
+    }
+    2
 }

@@ -3,23 +3,22 @@ use mathlib.Core.Path.{_≡_}
 use Prim.Native.Nat.{ℕ, suc, _+_, _-_, _<_}
 use native.Mathlib.Omega.{arith}
 use Rattle.rules.specs.declared.Point.{Point}
-use Rattle.rules.specs.declared.Node.{Node}
+use Rattle.rules.specs.declared.Correction.{Correction}
 use Rattle.rules.specs.declared.Refusal.{Refusal}
 use Rattle.rules.specs.Answers.{values, number, numberOf}
 use Rattle.rules.specs.Image.{Grid}
-use Rattle.rules.specs.Lookup.{lookup}
 use Rattle.rules.specs.Ways.{minus, iterate, sourceOf}
 use Rattle.out.specs.declared.Turn.{Turn}
 use Rattle.out.specs.declared.Turn.the-variants as turn
-use Rattle.out.specs.Turn.{onward, Judged, Evaluated, correctionOf}
+use Rattle.out.specs.Turn.{onward, Judged, Evaluated}
 
--- A lookup with values leads to p minus the corrections, which is judged; one with a number ends the way.
-pub evaluated : (g : Grid) (p r q : Point) (n : Node) (t : Turn) → lookup g r ≡ values n → q ≡ minus p (correctionOf n) → Judged (g .geometry) r q t → Evaluated g p r t
+-- Corrections found lead to p minus the corrections, which is judged; a number ends the way.
+pub evaluated : (g : Grid) (p r q : Point) (c : Correction) (t : Turn) → sourceOf g .corrections r ≡ values c → q ≡ minus p c → Judged (g .geometry) r q t → Evaluated g p r t
 unfolding iterate
-evaluated g p r q n t e m j =
+evaluated g p r q c t e m j =
     record { step = λ left k. rw (e, ← m) (j .step k (λ x. iterate (sourceOf g) 1 p left (k + 1) x)); leads = j .leads }
 
-pub refused : (g : Grid) (p r : Point) (e : Refusal) → lookup g r ≡ number (numberOf e) → Evaluated g p r (turn.Refused e)
+pub refused : (g : Grid) (p r : Point) (e : Refusal) → sourceOf g .corrections r ≡ number (numberOf e) → Evaluated g p r (turn.Refused e)
 unfolding iterate
 refused g p r e h = record { step = λ left k. rw h; leads = tt }
 

@@ -4,8 +4,6 @@ use mathlib.Core.Path.{_≡_}
 use Prim.Native.Nat.{ℕ, suc, _+_}
 use Rattle.rules.specs.declared.Geometry.{Geometry}
 use Rattle.rules.specs.declared.Point.{Point}
-use Rattle.rules.specs.declared.Node.{Node}
-use Rattle.rules.specs.declared.Correction.{Correction}
 use Rattle.rules.specs.Answers.{Outcome, values, number, ask, numberOf}
 use Rattle.rules.specs.Image.{Grid}
 use Rattle.rules.specs.Lookup.{inside}
@@ -35,7 +33,3 @@ pub record Judged (g : Geometry) (r q : Point) (t : Turn) : Type 0 where
 pub record Evaluated (g : Grid) (p r : Point) (t : Turn) : Type 0 where
   pub step : (left n : ℕ) → iterate (sourceOf g) 1 p (suc left) n r ≡ onward t n (λ q. iterate (sourceOf g) 1 p left (n + 1) q)
   pub leads : LeadsInside (g .geometry) t
-
--- The corrections of a lookup.
-abbrev pub correctionOf : Node → Correction
-correctionOf n = record { latitude = n .latitude; longitude = n .longitude }

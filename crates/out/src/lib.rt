@@ -1,13 +1,15 @@
 // The way out: from an ETRS89 point and height to Bessel and NAP, for every image, fix and height.
 use image::open;
+use lookup::Corrected;
+use lookup::Leveled;
+use lookup::corrections_at;
 use lookup::fix_passes;
+use lookup::height_at;
 use lookup::in_bounds;
-use lookup::look_up;
 use numbers::is_within;
 use rules::Answer;
+use rules::Correction;
 use rules::Geometry;
-use rules::Lookup;
-use rules::Node;
 use rules::Opened;
 use rules::Point;
 use rules::Position;
@@ -21,8 +23,7 @@ ghost use Rattle.rules.specs.Image.{gridOf};
 ghost use Rattle.rules.specs.Questions.{opening, AxisPasses};
 ghost use Rattle.rules.specs.Lookup.{inside};
 ghost use Rattle.rules.specs.Ways as ways;
-ghost use Rattle.rules.proofs.Limits.{NodeWithin};
-ghost use Rattle.out.specs.Turn.{Evaluated, Judged, correctionOf};
+ghost use Rattle.out.specs.Turn.{Evaluated, Judged};
 
 // What one evaluation leads to.
 pub enum Turn {
@@ -76,9 +77,9 @@ fn evaluation(image: &[u8], g: Geometry, p: Point, r: Point) -> Turn
     requires { ⌜ (opening (now image) ≡ values g) × (inside g p ≡ true) × (inside g r ≡ true) ⌝ }
     ensures { λ t. ⌜ Evaluated (gridOf (now (image .entry)) g) p r t ⌝ }
 {
-    match look_up(image, g, r) {
-        Lookup::Found(n) => judged(g, r, moved(p, n)),
-        Lookup::Refused(e) => Turn::Refused(e),
+    match corrections_at(image, g, r) {
+        Corrected::Found(c) => judged(g, r, moved(p, c)),
+        Corrected::Refused(e) => Turn::Refused(e),
     }
 }
 
@@ -111,12 +112,12 @@ fn is_settled(q: Point, r: Point) -> bool
 }
 
 // A point minus corrections.
-fn moved(p: Point, n: Node) -> Point
-    requires { ⌜ (natAbs (p .latitude) ≤ 90000000000) × (natAbs (p .longitude) ≤ 180000000000) × NodeWithin n ⌝ }
-    ensures { λ q. ⌜ q ≡ ways.minus p (correctionOf n) ⌝ }
+fn moved(p: Point, c: Correction) -> Point
+    requires { ⌜ (natAbs (p .latitude) ≤ 90000000000) × (natAbs (p .longitude) ≤ 180000000000) × (natAbs (c .latitude) ≤ 10000000) × (natAbs (c .longitude) ≤ 10000000) ⌝ }
+    ensures { λ q. ⌜ q ≡ ways.minus p c ⌝ }
 {
-    let latitude = p.latitude - n.latitude;
-    let longitude = p.longitude - n.longitude;
+    let latitude = p.latitude - c.latitude;
+    let longitude = p.longitude - c.longitude;
     Point {
         latitude,
         longitude,
@@ -128,22 +129,22 @@ fn answer_at(image: &[u8], g: Geometry, q: Point, height: i64, count: u64) -> An
     requires { ⌜ (opening (now image) ≡ values g) × (inside g q ≡ true) × (natAbs height ≤ 100000000) ⌝ }
     ensures { λ r. ⌜ answerOf r ≡ andThen ((ways.sourceOf (gridOf (now (image .entry)) g)) .height q) (λ z. values (ways.position q (height -ℤ z) count)) ⌝ }
 {
-    match look_up(image, g, q) {
-        Lookup::Found(n) => Answer::Values(lowered(q, height, n, count)),
-        Lookup::Refused(e) => Answer::Refused(e),
+    match height_at(image, g, q) {
+        Leveled::Found(z) => Answer::Values(lowered(q, height, z, count)),
+        Leveled::Refused(e) => Answer::Refused(e),
     }
 }
 
-fn lowered(q: Point, height: i64, n: Node, count: u64) -> Position
-    requires { ⌜ (natAbs height ≤ 100000000) × (natAbs (n .height) ≤ 1000000) ⌝ }
-    ensures { λ r. ⌜ r ≡ ways.position q (height -ℤ n .height) count ⌝ }
+fn lowered(q: Point, height: i64, z: i64, count: u64) -> Position
+    requires { ⌜ (natAbs height ≤ 100000000) × (natAbs z ≤ 1000000) ⌝ }
+    ensures { λ r. ⌜ r ≡ ways.position q (height -ℤ z) count ⌝ }
 {
     let latitude = q.latitude;
     let longitude = q.longitude;
     Position {
         latitude,
         longitude,
-        height: height - n.height,
+        height: height - z,
         count,
     }
 }

@@ -7,9 +7,6 @@ use Rattle.rules.specs.Ways.{question7}
 use borrow.Author.Needs.{needs}
 use Rattle.lookup.proofs.fix_passes.Statement.{statement}
 use Rattle.lookup.proofs.fix_passes.Tie as tie
-use Rattle.lookup.proofs.fix_passes.Reads as reads
-use Rattle.lookup.proofs.fix_passes.Lts as lts
-use Rattle.numbers.proofs.is_within.Reads as is-within-reads
 
 -- the first two tests, on the angles themselves
 first : (c : tie.After-is-within) → c .is-within .result ≡ within (degrees 90) (c .before .before .args .p .latitude)
@@ -18,19 +15,6 @@ first c = rw (kept w64 (c .before .before .args .p .latitude) (c .before .struct
 second : (c : tie.After-is-within2) → c .is-within2 .result ≡ within (degrees 180) (c .before .before .before .before .before .args .p .longitude)
 second c = rw (kept w64 (c .before .before .before .before .before .args .p .longitude) (c .before .struct-told2 .given .1 .0 .1)) at (c .is-within2 .ensures)
 
--- src/lib.rt:37:8
-is-within-requires : tie.Need-is-within-requires
-is-within-requires c κs = search needs
-
--- src/lib.rt:38:12
-is-within-requires-2 : tie.Need-is-within-requires-2
-is-within-requires-2 c κs = search needs
-
--- src/lib.rt:39:13
-is-within-requires-3 : tie.Need-is-within-requires-3
-is-within-requires-3 c κs = search needs
-
--- src/lib.rt:34:1
 returns : tie.Need-returns
 unfolding question7
 returns c = let t2 = c .before in
@@ -39,12 +23,10 @@ returns c = let t2 = c .before in
     rw (sym (first (t1 .before)) ∙ t1 .if1 .taken, sym (second (t2 .before)) ∙ t2 .if2 .taken)
     (rw (kept w64 (s .args .height) (s .fits .height .sfits)) at (c .is-within3 .ensures))
 
--- src/lib.rt:34:1
 returns-2 : tie.Need-returns-2
 unfolding question7
 returns-2 c = let t1 = c .before .before .before in rw (sym (first (t1 .before)) ∙ t1 .if1 .taken, sym (second (c .before)) ∙ c .if2 .left)
 
--- src/lib.rt:34:1
 returns-3 : tie.Need-returns-3
 unfolding question7
 returns-3 c = rw (sym (first (c .before)) ∙ c .if1 .left)
@@ -53,9 +35,9 @@ pub fix-passes-spec : {M : Type 1} → statement M
 fix-passes-spec =
     tie.close
     (tie.spec
-    is-within-requires
-    is-within-requires-2
-    is-within-requires-3
+    (λ c κs. search needs)
+    (λ c κs. search needs)
+    (λ c κs. search needs)
     returns
     returns-2
     returns-3)

@@ -1,94 +1,38 @@
--- `lookup::look_up` meets its contract: the place of the point on each axis gives its cell, whose corners `cell_at` reads. Assumes nothing.
+-- `lookup::look_up` meets its contract: question 9 is put to the corners of the point's cell, and their values are weighed. Assumes nothing.
 use mathlib.Core.Bool.{Bool}
 use mathlib.Core.Path.{_≡_, sym, ap, _∙_}
-use native.Mathlib.Omega.{arith}
-use lib.ListN.{length}
 use borrow.Author.Tests.{not-true, not-false}
 use denote.Ref.{now}
-use mir.Syntax.{w64}
-use Rattle.integers.specs.Machine.{kept}
 use Rattle.rules.specs.Answers.{values}
 use Rattle.rules.specs.Image.{gridOf}
-use Rattle.rules.specs.Questions.{Open}
 use Rattle.rules.proofs.Opening.{opened}
-use Rattle.rules.specs.Bilinear.{offset}
-use Rattle.rules.proofs.Cells.{on-latitude, on-longitude, cell-nodes}
-use Rattle.nodes.specs.Cell.{cellAt, allPass}
-use Rattle.lookup.specs.Values.{valuesIn}
-use Rattle.lookup.proofs.Found.{cellFor, partFor, lookup-is, in-cell}
+use Rattle.nodes.specs.Cell.{allPass}
+use Rattle.lookup.specs.declared.Spot.{Spot}
+use Rattle.lookup.specs.Values.{spotAt, valuesIn}
+use Rattle.lookup.proofs.Found.{lookup-is, spot-inside}
 use borrow.Author.Needs.{needs}
 use Rattle.lookup.proofs.look_up.Statement.{statement}
 use Rattle.lookup.proofs.look_up.Tie as tie
 
-is-open : (c : tie.Start) → Open (length (c .args .image .now)) (c .args .g)
-is-open c = opened _ _ (c .pre .0)
-
--- the places on both axes
-north : (c : tie.After-place-on) → let s = c .before .before .before .before .before .args in
-    (c .place-on .result .cell ≡ cellFor (s .g .latitude) (s .p .latitude)) × (c .place-on .result .part ≡ partFor (s .g .latitude) (s .p .latitude))
-north c = rw (kept w64 (c .before .before .before .before .before .args .p .latitude) (c .before .struct-told .given .0 .1)) at (c .place-on .ensures)
-
-east : (c : tie.After-place-on2) → let s = c .before .before .before .before .before .before .before .args in
-    (c .place-on2 .result .cell ≡ cellFor (s .g .longitude) (s .p .longitude)) × (c .place-on2 .result .part ≡ partFor (s .g .longitude) (s .p .longitude))
-east c = rw (kept w64 (c .before .before .before .before .before .before .before .args .p .longitude) (c .before .struct-told2 .given .1 .0 .1)) at (c .place-on2 .ensures)
-
--- the corners of the point's cell
-cell : (c : tie.After-cell-at) → let s = c .before .before .before .before .before .before .before .before .args in
-    c .cell-at .result ≡ cellAt (gridOf (now (s .image)) (s .g)) (cellFor (s .g .latitude) (s .p .latitude)) (cellFor (s .g .longitude) (s .p .longitude))
-cell c =
-    let s = c .before .before .before .before .before .before .before .before .args in
-    c .cell-at .ensures ∙ (λ i. cellAt (gridOf (now (s .image)) (s .g)) (north (c .before .before .before) .0 i) (east (c .before) .0 i))
-
--- question 9, of those corners
-passes : (c : tie.After-cell-passes) (b : Bool) → c .cell-passes .result ≡ b → let s = c .before .before .before .before .before .before .before .before .before .args in
-    allPass (cellAt (gridOf (now (s .image)) (s .g)) (cellFor (s .g .latitude) (s .p .latitude)) (cellFor (s .g .longitude) (s .p .longitude))) ≡ b
-passes c b e = ap allPass (sym (cell (c .before))) ∙ sym (c .cell-passes .ensures) ∙ e
-
-place-on-requires : tie.Need-place-on-requires
-place-on-requires c κs = let s = c .before .before .before .before in
-    let o = is-open s in
-    (omega arith, rw (kept w64 (s .args .p .latitude) (c .struct-told .given .0 .1)) (on-latitude (s .args .g) (s .args .p) (s .pre .1)))
-
-place-on-requires-2 : tie.Need-place-on-requires-2
-place-on-requires-2 c κs = let s = c .before .before .before .before .before .before in
-    let o = is-open s in
-    (omega arith, rw (kept w64 (s .args .p .longitude) (c .struct-told2 .given .1 .0 .1)) (on-longitude (s .args .g) (s .args .p) (s .pre .1)))
-
-cell-at-requires : tie.Need-cell-at-requires
-cell-at-requires c κs = let s = c .before .before .before .before .before .before .before in
-    let o = is-open s in
-    (o, (rw (north (c .before .before) .0) (cell-nodes _ (offset (s .args .g .latitude) (s .args .p .latitude)) (o .latitude .sized)), rw (east c .0) (cell-nodes _ (offset (s .args .g .longitude) (s .args .p .longitude)) (o .longitude .sized))))
+-- question 9, of the corners of the point's cell
+passes : (c : tie.After-cell-passes) (b : Bool) → c .cell-passes .result ≡ b → let s = c .before .before .before .before .args in allPass (spotAt (gridOf (now (s .image)) (s .g)) (s .p) .cell) ≡ b
+passes c b e = ap (λ (s : Spot). allPass (s .cell)) (sym (c .before .before .spot-of .ensures)) ∙ sym (c .cell-passes .ensures) ∙ e
 
 returns : tie.Need-returns
-returns c = let s = c .before .before .before .before .before .before .before .before .before .before .args in
+returns c = let s = c .before .before .before .before .before .args in
     rw (lookup-is (gridOf (now (s .image)) (s .g)) (s .p), passes (c .before) _ (not-true _ (c .if1 .taken)))
 
 values-in-requires : tie.Need-values-in-requires
-values-in-requires c κs = let e = c .before .before .before in
-    let n = e .before .before in
-    let s = n .before .before .before .before .before in
-    let o = is-open s in (
-      sym (c .before .cell-passes .ensures) ∙ not-false _ (c .if1 .left),
-      rw (north n .1, east e .1)
-          (in-cell _ _ _ _ (o .latitude .sized) (o .longitude .sized) (on-latitude (s .args .g) (s .args .p) (s .pre .1)) (on-longitude (s .args .g) (s .args .p) (s .pre .1))),
-    )
+values-in-requires c κs = let s = c .before .before .before .before .before in (
+  sym (c .before .cell-passes .ensures) ∙ not-false _ (c .if1 .left),
+  rw (c .before .before .before .spot-of .ensures) (spot-inside (gridOf (now (s .args .image)) (s .args .g)) (s .args .p) (opened _ _ (s .pre .0)) (s .pre .1)),
+)
 
 returns-2 : tie.Need-returns-2
-returns-2 c = let t = c .before .before in
-    let e = t .before .before in
-    let n = e .before .before in
-    let s = n .before .before .before .before .before .args in
-    rw (lookup-is (gridOf (now (s .image)) (s .g)) (s .p), passes t _ (not-false _ (c .before .if1 .left)))
-    (ap values (c .values-in .ensures ∙ (λ i. valuesIn (cell (t .before) i) (north n .1 i) (east e .1 i) (s .g .latitude .spacing) (s .g .longitude .spacing))))
+returns-2 c = let s = c .before .before .before .before .before .before .args in
+    rw (lookup-is (gridOf (now (s .image)) (s .g)) (s .p), passes (c .before .before) _ (not-false _ (c .before .if1 .left)))
+    (ap values (c .values-in .ensures ∙ ap (λ (a : Spot). valuesIn (a .cell) (a .north) (a .east) (s .g .latitude .spacing) (s .g .longitude .spacing)) (c .before .before .before .before .spot-of .ensures)))
 
 pub look-up-spec : {M : Type 1} → statement M
 look-up-spec =
-    tie.close
-    (tie.spec
-    place-on-requires
-    place-on-requires-2
-    cell-at-requires
-    (λ c κs. search needs)
-    returns
-    values-in-requires
-    returns-2)
+    tie.close (tie.spec (λ c κs. search needs) (λ c κs. search needs) returns values-in-requires returns-2)

@@ -6,13 +6,13 @@ use Rattle.out.proofs.lowered.Statement.{statement}
 use Rattle.out.proofs.lowered.Tie as tie
 
 sub-t7 : tie.Need-sub-t7
-sub-t7 c = let a = c .before .before .before .before .args in difference-fits (a .height) (a .n .height) (omega arith) (omega arith)
+sub-t7 c = let a = c .before .before .args in difference-fits (a .height) (a .z) (omega arith) (omega arith)
 
 returns : tie.Need-returns
-returns c = let a = c .before .before .before .before .args in
-    let latitude = kept w64 (a .q .latitude) (c .before .before .before .struct-told .given .0 .1) in
-    let longitude = kept w64 (a .q .longitude) (c .before .before .struct-told2 .given .1 .0 .1) in
-    let height = difference-back (a .height) (a .n .height) (omega arith) (omega arith) in
+returns c = let a = c .before .before .args in
+    let latitude = kept w64 (a .q .latitude) (c .before .struct-told .given .0 .1) in
+    let longitude = kept w64 (a .q .longitude) (c .struct-told2 .given .1 .0 .1) in
+    let height = difference-back (a .height) (a .z) (omega arith) (omega arith) in
     λ i. record { latitude = latitude i; longitude = longitude i; height = height i; count = a .count }
 
 pub lowered-spec : {M : Type 1} → statement M
