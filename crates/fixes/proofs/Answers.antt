@@ -44,9 +44,9 @@ module _ (convert : Point → ℤ → Outcome Position) where
     pub Written : List ℤ → ℕ → Type 0
     Written answers k = take (5 * k) answers ≡ take (5 * k) (answersOf convert fixes)
 
-    pub written-none : (answers : List ℤ) → Written answers 0
+    pub written-none : (answers : List ℤ) (k : ℕ) → k ≡ 0 → Written answers k
     unfolding Written
-    written-none answers = refl
+    written-none answers k e = rw e
 
     -- One more, at the front of the part that was lent on.
     pub written-more : (answers part rest post : List ℤ) (k : ℕ) (a : Outcome Position) → 3 * k + 2 < length fixes → 5 * k ≤ length answers
