@@ -17,7 +17,14 @@ five-long : (a : Outcome Position) → length (fiveOf a) ≡ 5
 five-long (values p) = refl
 five-long (number n) = refl
 
+-- The front of a list whose part from n on was lent, and has v at its own front since.
+front : (l v rest post : List ℤ) (n : ℕ) → n ≤ length l → take (n + length v) (take n l ++ ((v ++ rest) ++ post)) ≡ take n l ++ v
+front l v rest post n h =
+    rw (append-assoc v rest post, ← append-assoc (take n l) v (rest ++ post))
+    (take-at (take n l ++ v) (rest ++ post) (n + length v) (rw (length-append, length-take-le)))
+
 module _ (convert : Point → ℤ → Outcome Position) where
+  -- Five numbers for each fix.
   pub answers-long : (fixes : List ℤ) (n : ℕ) → length fixes ≡ 3 * n → length (answersOf convert fixes) ≡ 5 * n
   answers-long [] n h = omega arith
   answers-long (_ ∷ []) n h = absurd (omega arith)
@@ -25,6 +32,7 @@ module _ (convert : Point → ℤ → Outcome Position) where
   answers-long (x ∷ y ∷ z ∷ rest) n h =
       rw length-append (omega (arith, five-long (convert (pointAt (x ∷ y ∷ []) 0) z), answers-long rest (n - 1) (omega arith)))
 
+  -- From 5 × k on stand the five numbers of the conversion of fix k.
   pub answers-at : (fixes : List ℤ) (k : ℕ) → 3 * k + 2 < length fixes
       → take 5 (drop (5 * k) (answersOf convert fixes)) ≡ fiveOf (convert (pointAt fixes k) (heightAt fixes k))
   answers-at [] k h = absurd (omega arith)
@@ -44,9 +52,9 @@ module _ (convert : Point → ℤ → Outcome Position) where
     pub Written : List ℤ → ℕ → Type 0
     Written answers k = take (5 * k) answers ≡ take (5 * k) (answersOf convert fixes)
 
-    pub written-none : (answers : List ℤ) → Written answers 0
+    pub written-none : (answers : List ℤ) (k : ℕ) → k ≡ 0 → Written answers k
     unfolding Written
-    written-none answers = refl
+    written-none answers k e = rw e
 
     -- One more, at the front of the part that was lent on.
     pub written-more : (answers part rest post : List ℤ) (k : ℕ) (a : Outcome Position) → 3 * k + 2 < length fixes → 5 * k ≤ length answers
@@ -54,13 +62,8 @@ module _ (convert : Point → ℤ → Outcome Position) where
         → Written answers k → Written (take (5 * k) answers ++ (part ++ post)) (k + 1)
     unfolding Written
     written-more answers part rest post k a hf ha e r w =
-        let n : 5 * (k + 1) ≡ 5 * k + 5 = omega arith in
-        let front : length (take (5 * k) answers ++ fiveOf a) ≡ 5 * k + 5 = rw (length-append, length-take-le) (omega (arith, five-long a)) in
-        let new : take (5 * k + 5) (take (5 * k) answers ++ (part ++ post)) ≡ take (5 * k) answers ++ fiveOf a =
-        rw (e, append-assoc (fiveOf a) rest post, ← append-assoc (take (5 * k) answers) (fiveOf a) (rest ++ post))
-        (take-at (take (5 * k) answers ++ fiveOf a) (rest ++ post) (5 * k + 5) front)
-        in
-        rw (n, new, take-add, answers-at fixes k hf, ← r, w)
+        let n : 5 * (k + 1) ≡ 5 * k + length (fiveOf a) = omega (arith, five-long a) in
+        rw (n, e, front answers (fiveOf a) rest post (5 * k) ha, five-long a, take-add, answers-at fixes k hf, ← r, w)
 
     pub written-all : (answers : List ℤ) (n : ℕ) → length fixes ≡ 3 * n → length answers ≡ 5 * n
         → Written answers n → answers ≡ answersOf convert fixes

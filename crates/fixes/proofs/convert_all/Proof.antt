@@ -3,9 +3,10 @@ use mathlib.Core.Path.{_≡_, sym, _∙_}
 use Prim.Native.Nat.{_*_, _/_, _-_, _≤_}
 use native.Mathlib.Omega.{arith}
 use lib.ListN.{length, length-take, length-drop}
+use Rattle.rules.specs.Answers.{answerOf}
 use Rattle.rules.specs.Image.{gridOf}
 use Rattle.rules.specs.Ways.{sourceOf}
-use Rattle.fixes.specs.Conversion.{wayOf}
+use Rattle.fixes.specs.Conversion.{wayOf, pointAt, heightAt}
 use Rattle.fixes.proofs.Counts.{count-fits}
 use Rattle.fixes.proofs.Lengths.{same-n}
 use Rattle.fixes.proofs.Answers.{Written, written-none, written-more, written-all}
@@ -20,7 +21,12 @@ abbrev μ-loop : tie.MeasureT-loop
 μ-loop way image g fixes answers₀ n k₀ answers k = n - k
 
 loop-holds : tie.Need-loop-holds Inv-loop μ-loop
-loop-holds c = (omega arith, same-n _ _ (c .before .pre .1) .1, written-none _ _ _)
+loop-holds c = (omega arith, same-n _ _ (c .before .pre .1) .1, written-none _ _ _ _ (omega arith))
+
+-- the answer that this turn writes is that of fix k
+answered : (c : tie.After-convert-fix Inv-loop μ-loop) → let l = c .before .before in let s = l .before .before .args in
+    answerOf (c .convert-fix .result) ≡ wayOf (s .way) (sourceOf (gridOf (s .image .now) (s .g))) (pointAt (s .fixes .now) (l .loop .k)) (heightAt (s .fixes .now) (l .loop .k))
+answered c = c .convert-fix .ensures
 
 convert-fix-requires : tie.Need-convert-fix-requires Inv-loop μ-loop
 convert-fix-requires c κs = (c .before .before .before .pre .0, omega arith)
@@ -41,7 +47,7 @@ part-write-answer-end : tie.Need-part-write-answer-end Inv-loop μ-loop
 part-write-answer-end c = omega arith
 
 write-answer-requires : tie.Need-write-answer-requires Inv-loop μ-loop
-write-answer-requires c κs = (simp (length-take, length-drop) (omega arith), count-fits _ _ _ _ _ (c .before .convert-fix .ensures))
+write-answer-requires c κs = (simp (length-take, length-drop) (omega arith), count-fits _ _ _ _ _ (answered (c .before)))
 
 add-k : tie.Need-add-k Inv-loop μ-loop
 add-k c = omega arith
@@ -55,7 +61,7 @@ loop-again c =
     let l = v .before .before .loop in (
       omega arith,
       c .answers .given .1 ∙ l .inv .1,
-      written-more _ _ _ _ _ _ _ _ (omega arith) (omega arith) (c .before .write-answer .ensures) (v .convert-fix .ensures) (l .inv .2),
+      written-more _ _ _ _ _ _ _ _ (omega arith) (omega arith) (c .before .write-answer .ensures) (answered v) (l .inv .2),
     )
 
 same-length : tie.Need-same-length Inv-loop μ-loop

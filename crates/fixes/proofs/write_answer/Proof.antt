@@ -1,7 +1,6 @@
 -- `fixes::write_answer` meets its contract: each arm is told which answer it has, and the five numbers that it stores are that answer's.
 -- Assumes nothing.
 use borrow.Author.Needs.{needs}
-use mathlib.Core.Path.{_∙_}
 use Prim.Native.Nat.{_≤_}
 use mir.Facts.{toZ-pos}
 use mir.Syntax.{w64}
@@ -21,20 +20,19 @@ returns c =
     let t = c .before .before .before .before .before .before in
     let p = t .before .before .a .given .0 .0 in
     let f = t .struct-told .given in
-    c .before .write-five .ensures
-    ∙ simp (
+    rw (t .before .before .a .given .1)
+    (rw (
       kept w64 (p .latitude) (f .0 .1),
       kept w64 (p .longitude) (f .1 .0 .1),
       kept w64 (p .height) (f .1 .1 .0 .1),
       toZ-pos w64 (cast-count (c .before .before .before) .sfits),
-      t .before .before .a .given .1,
-    )
+    ) at (c .before .write-five .ensures))
 
 returns-2 : tie.Need-returns-2
 returns-2 c =
     let n = c .before .before .before in
-    c .before .write-five2 .ensures
-    ∙ simp (kept w64 (n .refusal-number .result) (n .refusal-number .ok)) (simp (n .refusal-number .ensures, n .before .before .a2 .given .1))
+    rw (n .before .before .a2 .given .1)
+    (rw (kept w64 (n .refusal-number .result) (n .refusal-number .ok), n .refusal-number .ensures) at (c .before .write-five2 .ensures))
 
 pub write-answer-spec : {M : Type 1} → statement M
 write-answer-spec =
