@@ -1,12 +1,13 @@
-//! Timing: the median of repeated measurements, taken in turn so that noise meets all alike.
+//! Timing: the median of repeated measurements, taken in turn so that noise meets all alike. The
+//! clock is the thread's processor time, which leaves out the time that other programs get.
 
-use std::time::{Duration, Instant};
+use std::ffi::{c_int, c_long};
 
-/// Times of repeated measurements of one piece of work.
-const REPEATS: usize = 15;
+/// Measurements of one piece of work.
+pub const REPEATS: usize = 51;
 
-/// How long one measurement lasts at least; short work is done many times in it.
-const SPAN: Duration = Duration::from_millis(12);
+/// How long one measurement lasts at least, in seconds; short work is done many times in it.
+const SPAN: f64 = 0.002;
 
 /// A piece of work that can be done again and again.
 pub type Work<'a> = Box<dyn FnMut() + 'a>;
@@ -29,19 +30,40 @@ fn times_in_span(work: &mut Work) -> u32 {
     let mut times = 1;
     loop {
         let taken = seconds(work, times);
-        if taken >= SPAN.as_secs_f64() / 2.0 {
-            return (f64::from(times) * SPAN.as_secs_f64() / taken).ceil() as u32;
+        if taken >= SPAN / 2.0 {
+            return (f64::from(times) * SPAN / taken).ceil() as u32;
         }
         times *= 2;
     }
 }
 
 fn seconds(work: &mut Work, times: u32) -> f64 {
-    let start = Instant::now();
+    let start = processor_seconds();
     for _ in 0..times {
         work();
     }
-    start.elapsed().as_secs_f64()
+    processor_seconds() - start
+}
+
+/// The C library's timespec, on 64-bit Linux.
+#[repr(C)]
+struct Time {
+    seconds: i64,
+    nanoseconds: c_long,
+}
+
+extern "C" {
+    fn clock_gettime(clock: c_int, time: *mut Time) -> c_int;
+}
+
+const THREAD_PROCESSOR_TIME: c_int = 3;
+
+/// The processor time of this thread so far.
+fn processor_seconds() -> f64 {
+    let mut time = Time { seconds: 0, nanoseconds: 0 };
+    let status = unsafe { clock_gettime(THREAD_PROCESSOR_TIME, &mut time) };
+    assert_eq!(status, 0, "the clock cannot be read");
+    time.seconds as f64 + time.nanoseconds as f64 / 1e9
 }
 
 fn median(mut values: Vec<f64>) -> f64 {

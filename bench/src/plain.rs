@@ -254,3 +254,44 @@ fn widen(steps: &mut [i64; 6], south: &[u8], row: &[u8]) -> Result<(), Number> {
     *steps = found;
     Ok(())
 }
+
+#[cfg(test)]
+mod tests {
+    //! Some of document 01's figures for its grid G.
+    use super::list;
+    use crate::grid::{Geometry, Grid};
+    use crate::Way;
+
+    const SOUTH: i64 = 52_000_000_000;
+    const WEST: i64 = 5_000_000_000;
+
+    /// The answer on G to a fix that is given by offsets, as offsets.
+    fn answer(way: Way, north: i64, east: i64, height: i64) -> [i64; 5] {
+        let geometry = Geometry {
+            south: SOUTH,
+            west: WEST,
+            latitude_spacing: 1_000,
+            longitude_spacing: 1_000,
+            rows: 3,
+            columns: 3,
+        };
+        let node = |row: u32, column: u32| [100 + 4 * row as i32, -50, 430_000 + 5 * column as i32];
+        let grid = Grid::new(geometry, node);
+        let mut five = [0; 5];
+        assert_eq!(list(way, &grid.image, &[SOUTH + north, WEST + east, height], &mut five), 0);
+        if five[4] == 0 {
+            five[0] -= SOUTH;
+            five[1] -= WEST;
+        }
+        five
+    }
+
+    #[test]
+    fn figures_of_grid_g() {
+        assert_eq!(answer(Way::Back, 500, 500, 10_000), [602, 450, 440_003, 1, 0]);
+        assert_eq!(answer(Way::Out, 602, 450, 440_003), [500, 500, 10_000, 2, 0]);
+        assert_eq!(answer(Way::Back, 2_000, 2_000, 0), [2_108, 1_950, 430_010, 1, 0]);
+        assert_eq!(answer(Way::Back, 2_001, 2_000, 0), [0, 0, 0, 0, 8]);
+        assert_eq!(answer(Way::Out, 50, 500, 0), [0, 0, 0, 0, 10]);
+    }
+}

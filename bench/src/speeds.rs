@@ -3,8 +3,8 @@
 use crate::agreement::{self, Distance};
 use crate::measure::{median_seconds, Work};
 use crate::proj::{self, Pipeline};
-use crate::temporary::Folder;
 use crate::proj_files;
+use crate::temporary::Folder;
 use bench::grid::{self, Grid};
 use bench::{fixes, Implementation, Way};
 use std::hint::black_box;
@@ -73,10 +73,9 @@ fn measure_lengths(grid: &Grid, pipeline: &Pipeline, speeds: &mut Speeds) {
 
 /// PROJ's pipeline over the grid's files, which are written first.
 fn opened(grid: &Grid, folder: &Folder) -> Pipeline {
-    let gsb = folder.0.join("corrections.gsb");
-    let gtx = folder.0.join("heights.gtx");
     let name = format!("{}x{}", grid.geometry.rows, grid.geometry.columns);
-    let (gsb, gtx) = (gsb.with_file_name(format!("{name}.gsb")), gtx.with_file_name(format!("{name}.gtx")));
+    let gsb = folder.0.join(format!("{name}.gsb"));
+    let gtx = folder.0.join(format!("{name}.gtx"));
     proj_files::write_gsb(grid, &gsb).expect("the file of corrections");
     proj_files::write_gtx(grid, &gtx).expect("the file of heights");
     Pipeline::open(&gsb, &gtx)

@@ -1,6 +1,7 @@
 //! The table, in Markdown.
 
 use crate::counts::Counts;
+use crate::measure::REPEATS;
 use crate::proj;
 use crate::speeds::{Conversions, Speeds, Three, LENGTHS, SIZES};
 use std::fmt::Write;
@@ -13,8 +14,11 @@ const THREE_HEAD: &str = "library | i128 | PROJ | library / i128 | library / PRO
 pub fn write(speeds: &Speeds, counts: &Counts) -> String {
     let mut text = String::from("# Speed of the conversion\n\n");
     text += &machine();
-    text += "\nMedians of 15 measurements that were taken in turn. \
-             The counts of instructions are exact.\n";
+    let _ = writeln!(
+        text,
+        "\nMedians of {REPEATS} measurements, taken in turn, of the thread's processor time. The \
+         machine ran other work meanwhile. The counts of instructions are exact."
+    );
     let sizes = SIZES.map(|(rows, columns)| format!("{rows} × {columns}"));
     let lengths = LENGTHS.map(|length| length.to_string());
     text += "\n## Conversions per second, by grid size (lists of 1,000 fixes)\n";
@@ -108,18 +112,20 @@ fn goals(speeds: &Speeds, counts: &Counts) -> String {
         all().flat_map(of).fold(f64::INFINITY, f64::min)
     };
     let checks = speeds.checks.iter().map(|it| it[0] / it[1]).fold(f64::INFINITY, f64::min);
-    let sizes: Vec<u64> = counts.by_size.iter().map(|it| it[0]).collect();
+    let instructions = || counts.by_size.iter().map(|it| it[0] as f64);
+    let least = instructions().fold(f64::INFINITY, f64::min);
+    let growth = instructions().fold(0.0, f64::max) / least;
     let told = |met: bool| if met { "met" } else { "missed" };
-    let same = sizes.iter().all(|it| *it == sizes[0]);
-    let mut text = String::from("\n## Goals\n\ngoal | least ratio measured | |\n---|---:|---|\n");
-    for (goal, ratio, least) in [
-        ("conversions: as fast as i128", ratios(1), 1.0),
-        ("grid check: as fast as i128", checks, 1.0),
-        ("conversions: three times PROJ", ratios(2), 3.0),
+    let mut text = String::from("\n## Goals\n\ngoal | measured | |\n---|---:|---|\n");
+    for (goal, ratio, wanted) in [
+        ("conversions: least library / i128 is at least 1", ratios(1), 1.0),
+        ("grid check: least library / i128 is at least 1", checks, 1.0),
+        ("conversions: least library / PROJ is at least 3", ratios(2), 3.0),
     ] {
-        let _ = writeln!(text, "{goal} | {ratio:.2} | {} |", told(ratio >= least));
+        let _ = writeln!(text, "{goal} | {ratio:.2} | {} |", told(ratio >= wanted));
     }
-    let _ = writeln!(text, "instructions of a fix the same for all grid sizes | | {} |", told(same));
+    let same = "instructions of a fix: most / least over the grid sizes is below 1.01";
+    let _ = writeln!(text, "{same} | {growth:.3} | {} |", told(growth < 1.01));
     text
 }
 
