@@ -11,7 +11,10 @@ fn main() {
         Some(folder) => PathBuf::from(folder),
         None => package.join("../target/staticlib"),
     };
-    println!("cargo:rerun-if-changed={}", folder.join("libmarker.a").display());
+    println!(
+        "cargo:rerun-if-changed={}",
+        folder.join("libmarker.a").display()
+    );
     println!("cargo:rustc-link-search=native={}", folder.display());
     println!("cargo:rustc-link-lib=static=marker");
 }

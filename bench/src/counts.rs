@@ -17,7 +17,10 @@ pub fn count() -> Counts {
     eprintln!("instructions");
     let by_count = (1..=5).map(|count| conversion(&format!("count {count}")));
     let by_size = SIZES.map(|(rows, columns)| conversion(&format!("size {rows} {columns}")));
-    Counts { by_count: by_count.collect(), by_size: by_size.to_vec() }
+    Counts {
+        by_count: by_count.collect(),
+        by_size: by_size.to_vec(),
+    }
 }
 
 /// Instructions of one conversion of a case, by both implementations.
@@ -31,7 +34,9 @@ fn conversion(case: &str) -> [u64; 2] {
 
 /// Instructions within the list call of the program one-list, which is beside this one.
 fn instructions(words: &str) -> u64 {
-    let program = env::current_exe().expect("this program's path").with_file_name("one-list");
+    let program = env::current_exe()
+        .expect("this program's path")
+        .with_file_name("one-list");
     let output = Command::new("valgrind")
         .args(["--tool=callgrind", "--callgrind-out-file=/dev/null"])
         .arg("--toggle-collect=counted_call")
@@ -41,6 +46,12 @@ fn instructions(words: &str) -> u64 {
         .expect("valgrind runs");
     let told = String::from_utf8_lossy(&output.stderr);
     assert!(output.status.success(), "one-list {words} fails: {told}");
-    let line = told.lines().find(|line| line.contains("Collected :")).expect("a count");
-    line.rsplit(' ').next().and_then(|it| it.parse().ok()).expect("a number")
+    let line = told
+        .lines()
+        .find(|line| line.contains("Collected :"))
+        .expect("a count");
+    line.rsplit(' ')
+        .next()
+        .and_then(|it| it.parse().ok())
+        .expect("a number")
 }

@@ -93,7 +93,11 @@ pub fn national(rows: u32, columns: u32) -> Grid {
     geometry.west -= geometry.width() / 2;
     Grid::new(geometry, |row, column| {
         let uneven = |value| uneven(row, column, value);
-        [950_000 + uneven(0), -500_000 + uneven(1), 430_000 + uneven(2)]
+        [
+            950_000 + uneven(0),
+            -500_000 + uneven(1),
+            430_000 + uneven(2),
+        ]
     })
 }
 

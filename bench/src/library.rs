@@ -33,7 +33,16 @@ pub fn list(way: Way, image: &[u8], fixes: &[i64], answers: &mut [i64]) -> i64 {
         Way::Back => marker_list_back,
     };
     let (written, length) = (answers.as_mut_ptr(), answers.len());
-    unsafe { call(image.as_ptr(), image.len(), fixes.as_ptr(), fixes.len(), written, length) }
+    unsafe {
+        call(
+            image.as_ptr(),
+            image.len(),
+            fixes.as_ptr(),
+            fixes.len(),
+            written,
+            length,
+        )
+    }
 }
 
 pub fn grid_check(image: &[u8], findings: &mut [i64; 6]) -> i64 {

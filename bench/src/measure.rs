@@ -60,7 +60,10 @@ const THREAD_PROCESSOR_TIME: c_int = 3;
 
 /// The processor time of this thread so far.
 fn processor_seconds() -> f64 {
-    let mut time = Time { seconds: 0, nanoseconds: 0 };
+    let mut time = Time {
+        seconds: 0,
+        nanoseconds: 0,
+    };
     let status = unsafe { clock_gettime(THREAD_PROCESSOR_TIME, &mut time) };
     assert_eq!(status, 0, "the clock cannot be read");
     time.seconds as f64 + time.nanoseconds as f64 / 1e9

@@ -25,7 +25,10 @@ fn main() {
         "plain" => Implementation::Plain,
         other => panic!("no implementation {other}"),
     };
-    let numbers: Vec<usize> = words[2..].iter().map(|it| it.parse().expect("a number")).collect();
+    let numbers: Vec<usize> = words[2..]
+        .iter()
+        .map(|it| it.parse().expect("a number"))
+        .collect();
     let (grid, count, fix_count) = match words[1].as_str() {
         "count" => (grid::with_count(numbers[0]), numbers[0] as i64, numbers[1]),
         "size" => (zeros(numbers[0] as u32, numbers[1] as u32), 1, numbers[2]),
@@ -36,7 +39,10 @@ fn main() {
     let image = black_box(&grid.image);
     let number = counted_call(implementation, image, &fixes, &mut answers);
     assert_eq!(number, 0);
-    assert!(answers.chunks(5).all(|it| it[3] == count && it[4] == 0), "{answers:?}");
+    assert!(
+        answers.chunks(5).all(|it| it[3] == count && it[4] == 0),
+        "{answers:?}"
+    );
 }
 
 /// A grid of a size, with all values zero.

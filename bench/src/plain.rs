@@ -53,7 +53,10 @@ pub fn list(way: Way, image: &[u8], fixes: &[i64], answers: &mut [i64]) -> Numbe
         return 14;
     }
     for (fix, answer) in fixes.chunks_exact(3).zip(answers.chunks_exact_mut(5)) {
-        let point = Point { latitude: fix[0], longitude: fix[1] };
+        let point = Point {
+            latitude: fix[0],
+            longitude: fix[1],
+        };
         let converted = match way {
             Way::Out => out(&grid, point, fix[2]),
             Way::Back => back(&grid, point, fix[2]),
@@ -105,7 +108,11 @@ fn judge_fix(grid: &Opened, p: Point, height: i64, limit: u64) -> Result<(), Num
     if !angles_fit || height.unsigned_abs() > limit {
         return Err(7);
     }
-    if grid.holds(p) { Ok(()) } else { Err(8) }
+    if grid.holds(p) {
+        Ok(())
+    } else {
+        Err(8)
+    }
 }
 
 impl Opened<'_> {
@@ -134,7 +141,11 @@ impl Opened<'_> {
         }
         let (p, q) = (self.latitude.spacing, self.longitude.spacing);
         let weights = [(p - u) * (q - v), (p - u) * v, u * (q - v), u * v];
-        Ok(Cell { corners, weights, area: p * q })
+        Ok(Cell {
+            corners,
+            weights,
+            area: p * q,
+        })
     }
 }
 
@@ -194,7 +205,11 @@ fn open(image: &[u8]) -> Result<Opened<'_>, Number> {
         return Err(6);
     }
     let nodes = &image[image.len() - back..first];
-    Ok(Opened { nodes, latitude, longitude })
+    Ok(Opened {
+        nodes,
+        latitude,
+        longitude,
+    })
 }
 
 /// Question 5 of one axis.
@@ -202,7 +217,12 @@ fn axis(start: i64, spacing: u32, count: u32, limit: i64) -> Option<Axis> {
     let spacing = i64::from(spacing);
     let end = start.checked_add(spacing * i64::from(count - 1))?;
     let fits = -limit <= start && end <= limit;
-    fits.then_some(Axis { start, end, spacing, count: count as usize })
+    fits.then_some(Axis {
+        start,
+        end,
+        spacing,
+        count: count as usize,
+    })
 }
 
 pub fn grid_check(image: &[u8], findings: &mut [i64; 6]) -> Number {
@@ -224,7 +244,10 @@ fn check(grid: &Opened) -> Result<[i64; 6], Number> {
         widen(&mut steps, south, row)?;
         south = row;
     }
-    let (p, q) = (i128::from(grid.latitude.spacing), i128::from(grid.longitude.spacing));
+    let (p, q) = (
+        i128::from(grid.latitude.spacing),
+        i128::from(grid.longitude.spacing),
+    );
     for pair in steps.chunks_exact(2) {
         if 100 * (i128::from(pair[0]) * q + i128::from(pair[1]) * p) > p * q {
             return Err(12);
@@ -278,7 +301,15 @@ mod tests {
         let node = |row: u32, column: u32| [100 + 4 * row as i32, -50, 430_000 + 5 * column as i32];
         let grid = Grid::new(geometry, node);
         let mut five = [0; 5];
-        assert_eq!(list(way, &grid.image, &[SOUTH + north, WEST + east, height], &mut five), 0);
+        assert_eq!(
+            list(
+                way,
+                &grid.image,
+                &[SOUTH + north, WEST + east, height],
+                &mut five
+            ),
+            0
+        );
         if five[4] == 0 {
             five[0] -= SOUTH;
             five[1] -= WEST;
@@ -288,9 +319,18 @@ mod tests {
 
     #[test]
     fn figures_of_grid_g() {
-        assert_eq!(answer(Way::Back, 500, 500, 10_000), [602, 450, 440_003, 1, 0]);
-        assert_eq!(answer(Way::Out, 602, 450, 440_003), [500, 500, 10_000, 2, 0]);
-        assert_eq!(answer(Way::Back, 2_000, 2_000, 0), [2_108, 1_950, 430_010, 1, 0]);
+        assert_eq!(
+            answer(Way::Back, 500, 500, 10_000),
+            [602, 450, 440_003, 1, 0]
+        );
+        assert_eq!(
+            answer(Way::Out, 602, 450, 440_003),
+            [500, 500, 10_000, 2, 0]
+        );
+        assert_eq!(
+            answer(Way::Back, 2_000, 2_000, 0),
+            [2_108, 1_950, 430_010, 1, 0]
+        );
         assert_eq!(answer(Way::Back, 2_001, 2_000, 0), [0, 0, 0, 0, 8]);
         assert_eq!(answer(Way::Out, 50, 500, 0), [0, 0, 0, 0, 10]);
     }

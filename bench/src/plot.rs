@@ -47,7 +47,11 @@ pub fn write(speeds: &Speeds, counts: &Counts) -> String {
 }
 
 fn panels(speeds: &Speeds, counts: &Counts) -> Vec<Panel> {
-    let sizes = || SIZES.map(|(rows, columns)| format!("{rows} × {columns}")).to_vec();
+    let sizes = || {
+        SIZES
+            .map(|(rows, columns)| format!("{rows} × {columns}"))
+            .to_vec()
+    };
     let lengths = || LENGTHS.map(|it| it.to_string()).to_vec();
     let counted = || (1..=5).map(|it| format!("count {it}")).collect();
     let out = |it: &Conversions| it.out.to_vec();
@@ -58,9 +62,24 @@ fn panels(speeds: &Speeds, counts: &Counts) -> Vec<Panel> {
         Panel::new("Out per second, by grid size", sizes(), by_size, out),
         Panel::new("Back per second, by grid size", sizes(), by_size, back),
         Panel::new("Out per second, by list length", lengths(), by_length, out),
-        Panel::new("Back per second, by list length", lengths(), by_length, back),
-        Panel::new("Grid check: nodes per second", sizes(), &speeds.checks, |it| it.to_vec()),
-        Panel::new("Instructions of one way out", counted(), &counts.by_count, instructions),
+        Panel::new(
+            "Back per second, by list length",
+            lengths(),
+            by_length,
+            back,
+        ),
+        Panel::new(
+            "Grid check: nodes per second",
+            sizes(),
+            &speeds.checks,
+            |it| it.to_vec(),
+        ),
+        Panel::new(
+            "Instructions of one way out",
+            counted(),
+            &counts.by_count,
+            instructions,
+        ),
     ]
 }
 
@@ -78,7 +97,11 @@ impl Panel {
             values: table.iter().map(|row| row[index]).collect(),
         };
         let lines = (0..table[0].len()).map(line).collect();
-        Panel { title, names, lines }
+        Panel {
+            title,
+            names,
+            lines,
+        }
     }
 
     /// The powers of ten at the panel's foot and head.
@@ -91,9 +114,7 @@ impl Panel {
 
     fn write(&self, text: &mut String) {
         let (low, high) = self.scale();
-        let x = |index: usize| {
-            LEFT + PLOT_WIDTH * (index as f64 + 0.5) / self.names.len() as f64
-        };
+        let x = |index: usize| LEFT + PLOT_WIDTH * (index as f64 + 0.5) / self.names.len() as f64;
         let y = |value: f64| TOP + PLOT_HEIGHT * (high - value.log10()) / (high - low);
         let _ = writeln!(
             text,
@@ -105,7 +126,10 @@ impl Panel {
         }
         for (index, name) in self.names.iter().enumerate() {
             let (x, y) = (x(index), TOP + PLOT_HEIGHT + 16.0);
-            let _ = writeln!(text, "<text x=\"{x}\" y=\"{y}\" text-anchor=\"middle\">{name}</text>");
+            let _ = writeln!(
+                text,
+                "<text x=\"{x}\" y=\"{y}\" text-anchor=\"middle\">{name}</text>"
+            );
         }
         for (index, line) in self.lines.iter().enumerate() {
             let points = line.values.iter().enumerate();
@@ -129,14 +153,20 @@ fn write_rule(text: &mut String, y: f64, power: i32) {
 /// A line through points, with its name in the panel's legend.
 fn write_line(text: &mut String, index: usize, name: &str, points: Vec<(f64, f64)>) {
     let colour = COLOURS[index];
-    let path: Vec<String> = points.iter().map(|(x, y)| format!("{x:.1},{y:.1}")).collect();
+    let path: Vec<String> = points
+        .iter()
+        .map(|(x, y)| format!("{x:.1},{y:.1}"))
+        .collect();
     let path = path.join(" ");
     let _ = writeln!(
         text,
         "<polyline points=\"{path}\" fill=\"none\" stroke=\"{colour}\" stroke-width=\"2\"/>"
     );
     for (x, y) in points {
-        let _ = writeln!(text, "<circle cx=\"{x:.1}\" cy=\"{y:.1}\" r=\"3\" fill=\"{colour}\"/>");
+        let _ = writeln!(
+            text,
+            "<circle cx=\"{x:.1}\" cy=\"{y:.1}\" r=\"3\" fill=\"{colour}\"/>"
+        );
     }
     let x = LEFT + 90.0 * index as f64;
     let y = TOP + PLOT_HEIGHT + 36.0;

@@ -53,7 +53,10 @@ impl Pipeline {
         );
         let definition = CString::new(definition).expect("no zero byte");
         let pipeline = unsafe { proj_create(ptr::null_mut(), definition.as_ptr()) };
-        assert!(!pipeline.is_null(), "PROJ refuses the pipeline {definition:?}");
+        assert!(
+            !pipeline.is_null(),
+            "PROJ refuses the pipeline {definition:?}"
+        );
         Pipeline(pipeline)
     }
 
@@ -78,7 +81,12 @@ impl Drop for Pipeline {
 /// A list's fixes as positions.
 pub fn positions(fixes: &[i64]) -> Vec<Position> {
     let position = |fix: &[i64]| {
-        [fix[1] as f64 / 1e9, fix[0] as f64 / 1e9, fix[2] as f64 / 1e4, 0.0]
+        [
+            fix[1] as f64 / 1e9,
+            fix[0] as f64 / 1e9,
+            fix[2] as f64 / 1e4,
+            0.0,
+        ]
     };
     fixes.chunks_exact(3).map(position).collect()
 }

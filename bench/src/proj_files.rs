@@ -55,8 +55,16 @@ fn write_extent(file: &mut impl Write, grid: &Grid) -> Result<()> {
     real(file, "N_LAT", north as f64 * SECONDS)?;
     real(file, "E_LONG", -east as f64 * SECONDS)?;
     real(file, "W_LONG", -geometry.west as f64 * SECONDS)?;
-    real(file, "LAT_INC", f64::from(geometry.latitude_spacing) * SECONDS)?;
-    real(file, "LONG_INC", f64::from(geometry.longitude_spacing) * SECONDS)?;
+    real(
+        file,
+        "LAT_INC",
+        f64::from(geometry.latitude_spacing) * SECONDS,
+    )?;
+    real(
+        file,
+        "LONG_INC",
+        f64::from(geometry.longitude_spacing) * SECONDS,
+    )?;
     whole(file, "GS_COUNT", geometry.rows * geometry.columns)
 }
 

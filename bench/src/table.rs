@@ -17,7 +17,8 @@ pub fn write(speeds: &Speeds, counts: &Counts) -> String {
     let _ = writeln!(
         text,
         "\nMedians of {REPEATS} measurements, taken in turn, of the thread's processor time. The \
-         machine ran other work meanwhile. The counts of instructions are exact."
+         load of the machine was {} after them. The counts of instructions are exact.",
+        load()
     );
     let sizes = SIZES.map(|(rows, columns)| format!("{rows} × {columns}"));
     let lengths = LENGTHS.map(|length| length.to_string());
@@ -35,7 +36,9 @@ pub fn write(speeds: &Speeds, counts: &Counts) -> String {
 /// The machine and the programs.
 fn machine() -> String {
     let cpu = fs::read_to_string("/proc/cpuinfo").unwrap_or_default();
-    let model = cpu.lines().find_map(|line| line.strip_prefix("model name\t: "));
+    let model = cpu
+        .lines()
+        .find_map(|line| line.strip_prefix("model name\t: "));
     let output = Command::new("rustc").arg("--version").output();
     let rustc = output.map(|it| String::from_utf8_lossy(&it.stdout).trim().to_string());
     let cores = thread::available_parallelism().map_or(0, |it| it.get());
@@ -45,6 +48,12 @@ fn machine() -> String {
         rustc.unwrap_or_default(),
         proj::release()
     )
+}
+
+/// The number of running programs, over the last 5 minutes.
+fn load() -> String {
+    let loads = fs::read_to_string("/proc/loadavg").unwrap_or_default();
+    loads.split(' ').nth(1).unwrap_or("unknown").to_string()
 }
 
 fn conversions(first: &str, names: &[String], rows: &[Conversions]) -> String {
@@ -69,7 +78,12 @@ fn conversions(first: &str, names: &[String], rows: &[Conversions]) -> String {
 fn three(speeds: Three) -> String {
     let [library, plain, proj] = speeds;
     let ratios = format!("{:.2} | {:.1}", library / plain, library / proj);
-    format!("{} | {} | {} | {ratios}", grouped(library), grouped(plain), grouped(proj))
+    format!(
+        "{} | {} | {} | {ratios}",
+        grouped(library),
+        grouped(plain),
+        grouped(proj)
+    )
 }
 
 fn checks(names: &[String], rows: &[[f64; 2]]) -> String {
@@ -77,7 +91,11 @@ fn checks(names: &[String], rows: &[[f64; 2]]) -> String {
     text += "grid | library | i128 | library / i128 |\n---|---:|---:|---:|\n";
     for (name, [library, plain]) in names.iter().zip(rows) {
         let (first, second) = (grouped(*library), grouped(*plain));
-        let _ = writeln!(text, "{name} | {first} | {second} | {:.2} |", library / plain);
+        let _ = writeln!(
+            text,
+            "{name} | {first} | {second} | {:.2} |",
+            library / plain
+        );
     }
     text
 }
@@ -87,7 +105,9 @@ fn instructions(sizes: &[String], counts: &Counts) -> String {
     text += "case | library | i128 | library / i128 |\n---|---:|---:|---:|\n";
     let by_count = (1..).map(|count: usize| format!("count {count}"));
     let by_size = sizes.iter().map(|size| format!("count 1, grid {size}"));
-    let named = by_count.zip(&counts.by_count).chain(by_size.zip(&counts.by_size));
+    let named = by_count
+        .zip(&counts.by_count)
+        .chain(by_size.zip(&counts.by_size));
     for (name, [library, plain]) in named {
         let ratio = *library as f64 / *plain as f64;
         let _ = writeln!(text, "{name} | {library} | {plain} | {ratio:.2} |");
@@ -111,16 +131,32 @@ fn goals(speeds: &Speeds, counts: &Counts) -> String {
         let of = move |it: &Conversions| [it.out[0] / it.out[other], it.back[0] / it.back[other]];
         all().flat_map(of).fold(f64::INFINITY, f64::min)
     };
-    let checks = speeds.checks.iter().map(|it| it[0] / it[1]).fold(f64::INFINITY, f64::min);
+    let checks = speeds
+        .checks
+        .iter()
+        .map(|it| it[0] / it[1])
+        .fold(f64::INFINITY, f64::min);
     let instructions = || counts.by_size.iter().map(|it| it[0] as f64);
     let least = instructions().fold(f64::INFINITY, f64::min);
     let growth = instructions().fold(0.0, f64::max) / least;
     let told = |met: bool| if met { "met" } else { "missed" };
     let mut text = String::from("\n## Goals\n\ngoal | measured | |\n---|---:|---|\n");
     for (goal, ratio, wanted) in [
-        ("conversions: least library / i128 is at least 1", ratios(1), 1.0),
-        ("grid check: least library / i128 is at least 1", checks, 1.0),
-        ("conversions: least library / PROJ is at least 3", ratios(2), 3.0),
+        (
+            "conversions: least library / i128 is at least 1",
+            ratios(1),
+            1.0,
+        ),
+        (
+            "grid check: least library / i128 is at least 1",
+            checks,
+            1.0,
+        ),
+        (
+            "conversions: least library / PROJ is at least 3",
+            ratios(2),
+            3.0,
+        ),
     ] {
         let _ = writeln!(text, "{goal} | {ratio:.2} | {} |", told(ratio >= wanted));
     }
