@@ -1,0 +1,55 @@
+//! Made-up fixes, the same in every run.
+
+use crate::grid::Geometry;
+
+/// Distance from the bounds within which no fix is made, so that every fix is answered.
+const MARGIN: i64 = 10_000_000;
+
+/// So many fixes spread over the grid, each at least 10,000,000 nd inside, with heights from 0 to
+/// 100 m.
+pub fn spread(geometry: &Geometry, count: usize) -> Vec<i64> {
+    let mut state = 0;
+    let mut below = |limit: i64| {
+        state += 1;
+        (mixed(state) % limit as u64) as i64
+    };
+    let mut fixes = Vec::with_capacity(3 * count);
+    for _ in 0..count {
+        fixes.push(geometry.south + MARGIN + below(geometry.height() - 2 * MARGIN + 1));
+        fixes.push(geometry.west + MARGIN + below(geometry.width() - 2 * MARGIN + 1));
+        fixes.push(below(1_000_001));
+    }
+    fixes
+}
+
+/// So many fixes that a list call answers or refuses: on, near and past the bounds and limits.
+pub fn anywhere(geometry: &Geometry, count: usize) -> Vec<i64> {
+    let spots = |start: i64, length: i64, index: u64| {
+        let spot = (mixed(index) % (length as u64 + 4_000_000)) as i64;
+        let places = [start, start + length, start - 2_000_000 + spot];
+        places[(mixed(index + 1) % 3) as usize]
+    };
+    let heights = [0, 100_000_000, 100_000_001, -110_000_000, 110_000_001];
+    let mut fixes = Vec::with_capacity(3 * count);
+    for index in 0..count as u64 {
+        fixes.push(spots(geometry.south, geometry.height(), 7 * index));
+        fixes.push(spots(geometry.west, geometry.width(), 7 * index + 3));
+        fixes.push(heights[(mixed(index) % 5) as usize]);
+    }
+    fixes
+}
+
+/// The fix in the middle of the grid, so many times.
+pub fn middle(geometry: &Geometry, count: usize) -> Vec<i64> {
+    let latitude = geometry.south + geometry.height() / 2;
+    let longitude = geometry.west + geometry.width() / 2;
+    [latitude, longitude, 500_000].repeat(count)
+}
+
+/// A number without a pattern for each number (splitmix64).
+pub fn mixed(number: u64) -> u64 {
+    let mut z = number.wrapping_add(1).wrapping_mul(0x9E37_79B9_7F4A_7C15);
+    z = (z ^ (z >> 30)).wrapping_mul(0xBF58_476D_1CE4_E5B9);
+    z = (z ^ (z >> 27)).wrapping_mul(0x94D0_49BB_1331_11EB);
+    z ^ (z >> 31)
+}

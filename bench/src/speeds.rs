@@ -1,0 +1,131 @@
+//! The measurements: conversions and checked nodes per second.
+
+use crate::agreement::{self, Distance};
+use crate::measure::{median_seconds, Work};
+use crate::proj::{self, Pipeline};
+use crate::proj_files;
+use crate::temporary::Folder;
+use bench::grid::{self, Grid};
+use bench::{fixes, Implementation, Way};
+use std::hint::black_box;
+
+/// Rows and columns of the grids.
+pub const SIZES: [(u32, u32); 5] = [(3, 3), (64, 64), (481, 301), (1_024, 1_024), (4_096, 4_096)];
+
+/// Lengths of the lists over the grid of 481 by 301.
+pub const LENGTHS: [usize; 5] = [1, 10, 100, 1_000, 10_000];
+
+const SIZE_OF_LENGTHS: (u32, u32) = (481, 301);
+const LENGTH_OF_SIZES: usize = 1_000;
+
+/// Conversions per second of the library, the plain implementation and PROJ.
+pub type Three = [f64; 3];
+
+/// All that was measured.
+pub struct Speeds {
+    pub by_size: Vec<Conversions>,
+    pub by_length: Vec<Conversions>,
+    /// Nodes per second of the library and the plain implementation, by grid size.
+    pub checks: Vec<[f64; 2]>,
+    /// How far PROJ's answers lie from the library's, on the grid of 481 by 301.
+    pub distance: Distance,
+}
+
+/// Conversions per second, and the mean count of the ways out.
+pub struct Conversions {
+    pub out: Three,
+    pub back: Three,
+    pub mean_count: f64,
+}
+
+pub fn measure() -> Speeds {
+    let folder = Folder::new();
+    let mut speeds = Speeds {
+        by_size: Vec::new(),
+        by_length: Vec::new(),
+        checks: Vec::new(),
+        distance: Distance::default(),
+    };
+    for size in SIZES {
+        eprintln!("grid of {} by {}", size.0, size.1);
+        let grid = grid::national(size.0, size.1);
+        let pipeline = opened(&grid, &folder);
+        let list = fixes::spread(&grid.geometry, LENGTH_OF_SIZES);
+        agreement::require(&grid, &list);
+        speeds.by_size.push(conversions(&grid, &pipeline, &list));
+        speeds.checks.push(check_speeds(&grid));
+        if size == SIZE_OF_LENGTHS {
+            measure_lengths(&grid, &pipeline, &mut speeds);
+        }
+    }
+    speeds
+}
+
+fn measure_lengths(grid: &Grid, pipeline: &Pipeline, speeds: &mut Speeds) {
+    for length in LENGTHS {
+        eprintln!("list of {length}");
+        let list = fixes::spread(&grid.geometry, length);
+        agreement::require(grid, &list);
+        speeds.by_length.push(conversions(grid, pipeline, &list));
+        speeds.distance = agreement::distance(grid, pipeline, &list);
+    }
+}
+
+/// PROJ's pipeline over the grid's files, which are written first.
+fn opened(grid: &Grid, folder: &Folder) -> Pipeline {
+    let name = format!("{}x{}", grid.geometry.rows, grid.geometry.columns);
+    let gsb = folder.0.join(format!("{name}.gsb"));
+    let gtx = folder.0.join(format!("{name}.gtx"));
+    proj_files::write_gsb(grid, &gsb).expect("the file of corrections");
+    proj_files::write_gtx(grid, &gtx).expect("the file of heights");
+    Pipeline::open(&gsb, &gtx)
+}
+
+fn conversions(grid: &Grid, pipeline: &Pipeline, list: &[i64]) -> Conversions {
+    let mut answers = vec![0; list.len() / 3 * 5];
+    let number = Implementation::Library.list(Way::Out, &grid.image, list, &mut answers);
+    assert_eq!(number, 0);
+    let counts: i64 = answers.chunks_exact(5).map(|answer| answer[3]).sum();
+    Conversions {
+        out: list_speeds(Way::Out, grid, pipeline, list),
+        back: list_speeds(Way::Back, grid, pipeline, list),
+        mean_count: counts as f64 / (list.len() / 3) as f64,
+    }
+}
+
+fn list_speeds(way: Way, grid: &Grid, pipeline: &Pipeline, list: &[i64]) -> Three {
+    let count = list.len() / 3;
+    let list_work = |implementation: Implementation| -> Work {
+        let mut answers = vec![0; 5 * count];
+        Box::new(move || {
+            let image = black_box(&grid.image);
+            implementation.list(way, image, black_box(list), &mut answers);
+            black_box(&answers);
+        })
+    };
+    let given = proj::positions(list);
+    let mut positions = given.clone();
+    let proj_work: Work = Box::new(move || {
+        positions.copy_from_slice(&given);
+        pipeline.convert(way, black_box(&mut positions));
+    });
+    let library = list_work(Implementation::Library);
+    let plain = list_work(Implementation::Plain);
+    let seconds = median_seconds(&mut [library, plain, proj_work]);
+    [0, 1, 2].map(|index| count as f64 / seconds[index])
+}
+
+fn check_speeds(grid: &Grid) -> [f64; 2] {
+    let check_work = |implementation: Implementation| -> Work {
+        Box::new(move || {
+            let mut findings = [0; 6];
+            implementation.grid_check(black_box(&grid.image), &mut findings);
+            black_box(&findings);
+        })
+    };
+    let library = check_work(Implementation::Library);
+    let plain = check_work(Implementation::Plain);
+    let seconds = median_seconds(&mut [library, plain]);
+    let nodes = f64::from(grid.geometry.rows) * f64::from(grid.geometry.columns);
+    [0, 1].map(|index| nodes / seconds[index])
+}
