@@ -12,6 +12,7 @@ mod coverage;
 mod lent;
 #[cfg(feature = "library")]
 mod library;
+mod pages;
 mod random;
 mod report;
 
