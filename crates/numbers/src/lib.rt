@@ -2,7 +2,7 @@
 use rules::Refusal;
 ghost use mathlib.Core.Path.{_≡_};
 ghost use Prim.Native.Nat.{_+_, _≤_, _<_};
-ghost use lib.IntN.{pos, natAbs};
+ghost use lib.IntN.{pos, natAbs, _-ℤ_};
 ghost use lib.ListN.{length};
 ghost use Rattle.rules.specs.Units.{between, within};
 ghost use Rattle.rules.specs.Answers.{numberOf};
@@ -44,16 +44,20 @@ pub fn u32_at(s: &[u8], at: usize) -> u64
     wide(s[at]) + 256 * wide(s[at + 1]) + 65536 * wide(s[at + 2]) + 16777216 * wide(s[at + 3])
 }
 
-// 32 bits in two's complement.
+// 32 bits in two's complement: raised by half the range, kept in the range, and lowered again. Without a test it is quicker.
 fn signed32(n: u64) -> i64
     requires { ⌜ n < 4294967296 ⌝ }
     ensures { λ r. ⌜ r ≡ twosComplement 2147483648 n ⌝ }
 {
-    if n < 2147483648 {
-        n as i64
-    } else {
-        n as i64 - 4294967296
-    }
+    lowered((n + 2147483648) % 4294967296)
+}
+
+// n less half the range.
+fn lowered(n: u64) -> i64
+    requires { ⌜ n < 4294967296 ⌝ }
+    ensures { λ r. ⌜ r ≡ pos n -ℤ pos 2147483648 ⌝ }
+{
+    n as i64 - 2147483648
 }
 
 // 64 bits in two's complement.

@@ -1,24 +1,23 @@
--- `numbers::signed32` meets its contract.
-use native.Mathlib.Omega.{arith}
+-- `numbers::signed32` meets its contract: kept in the range, a sum below twice the range is as it was, or less by the range. Assumes nothing.
+use mathlib.Core.Bool.{Bool, true, false, cond}
+use mathlib.Core.Path.{_≡_, refl, _∙_}
+use Prim.Native.Nat.{ℕ, _+_, _%_, _<_}
+use lib.Dec.{ltb}
+use lib.IntN.{pos, _-ℤ_}
 use mir.Syntax.{w64}
-use borrow.Author.Tests.{lt-ltb, le-ltb}
 use Rattle.integers.specs.Difference.{lit, _⊖_}
-use Rattle.integers.specs.Machine.{zarith, back, small}
+use Rattle.integers.specs.Machine.{zarith, kept}
 use borrow.Author.Needs.{needs}
 use Rattle.numbers.proofs.signed32.Statement.{statement}
 use Rattle.numbers.proofs.signed32.Tie as tie
 
-sub-result : tie.Need-sub-result
-sub-result c = omega (zarith, small w64 (c .before .args .n) (omega arith) ⊖ lit 4294967296)
+-- by whether the highest bit of n is set
+signed : (n : ℕ) → n < 4294967296 → (b : Bool) → ltb n 2147483648 ≡ b → pos ((n + 2147483648) % 4294967296) -ℤ pos 2147483648 ≡ cond b (pos n) (pos n -ℤ pos 4294967296)
+signed n h true t = omega (zarith, lit ((n + 2147483648) % 4294967296) ⊖ lit 2147483648)
+signed n h false t = omega (zarith, lit ((n + 2147483648) % 4294967296) ⊖ lit 2147483648, lit n ⊖ lit 4294967296)
 
 returns : tie.Need-returns
-returns c = rw (lt-ltb _ _ (c .if1 .taken)) (omega (zarith, small w64 (c .before .args .n) (omega arith)))
-
-returns-2 : tie.Need-returns-2
-returns-2 c =
-    let n = c .before .args .n in
-    rw (le-ltb _ _ (c .if1 .left))
-    (omega (zarith, back (sub-result c) (small w64 n (omega arith) ⊖ lit 4294967296), lit n ⊖ lit 4294967296))
+returns c = kept w64 (c .lowered .result) (c .lowered .ok) ∙ c .lowered .ensures ∙ signed (c .before .args .n) (c .before .pre) _ refl
 
 pub signed32-spec : {M : Type 1} → statement M
-signed32-spec = tie.close (tie.spec (λ c. search needs) (λ c. search needs) sub-result returns returns-2)
+signed32-spec = tie.close (tie.spec (λ c. search needs) (λ c κs. search needs) returns)
