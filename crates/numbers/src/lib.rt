@@ -15,11 +15,18 @@ pub fn magnitude(z: i64) -> u64
     if z < 0 { (-1 - z) as u64 + 1 } else { z as u64 }
 }
 
-// At most `limit` from zero?
+// At most `limit` from zero? No number of 64 bits is further from it than 2^63.
 pub fn is_within(z: i64, limit: u64) -> bool
     ensures { λ r. ⌜ r ≡ within limit z ⌝ }
 {
-    magnitude(z) <= limit
+    if 9223372036854775807 < limit {
+        return true;
+    }
+    if 0 - limit as i64 <= z {
+        z <= limit as i64
+    } else {
+        false
+    }
 }
 
 // From `low` to `high`, both included?
