@@ -1,4 +1,5 @@
 -- `marker::marker_grid_check` meets its contract: the findings of a passed check are small, so each fits. Assumes nothing.
+use mathlib.Core.List.{[], _∷_}
 use mathlib.Core.Path.{_≡_, sym, ap, _∙_}
 use native.Mathlib.Omega.{arith}
 use denote.Ref.{now}
@@ -42,7 +43,13 @@ returns c = let at = c .before .before .before .before .before .before .before .
     let e = passed at in
     let f = at .f .given .0 .0 in
     let s = small at in
-    (rw e, rw (e, toZ-pos w64 (f .latitude .north) (omega arith), toZ-pos w64 (f .latitude .east) (omega arith), toZ-pos w64 (f .longitude .north) (omega arith), toZ-pos w64 (f .longitude .east) (omega arith), toZ-pos w64 (f .height .north) (omega arith), toZ-pos w64 (f .height .east) (omega arith)))
+    let a = toZ-pos w64 (f .latitude .north) (omega arith) in
+    let b = toZ-pos w64 (f .latitude .east) (omega arith) in
+    let d = toZ-pos w64 (f .longitude .north) (omega arith) in
+    let g = toZ-pos w64 (f .longitude .east) (omega arith) in
+    let h = toZ-pos w64 (f .height .north) (omega arith) in
+    let k = toZ-pos w64 (f .height .east) (omega arith) in
+    (rw e, rw e (λ i. a i ∷ b i ∷ d i ∷ g i ∷ h i ∷ k i ∷ []))
 
 returns-2 : tie.Need-returns-2
 returns-2 c = let e = sym (c .before .before .before .before .grid-check .ensures) ∙ ap checkedOf (c .before .before .r .given .1) in

@@ -1,18 +1,24 @@
 -- `marker::marker_read_notation` meets its contract: from what `read_notation` ensures. Assumes nothing.
-use mathlib.Core.Path.{sym, ap, _∙_}
+use mathlib.Core.Path.{_≡_, sym, ap, _∙_}
 use mir.Syntax.{w64}
 use Rattle.integers.specs.Machine.{kept}
 use Rattle.rules.specs.Answers.{readingOf}
+use Rattle.rules.specs.Notation.{readNotation}
 use borrow.Author.Needs.{needs}
 use Rattle.marker.proofs.marker_read_notation.Statement.{statement}
 use Rattle.marker.proofs.marker_read_notation.Tie as tie
 
+-- the rule, of the four parts as they are given
+read : (c : tie.After-read-notation) → let s = c .before .args in
+    readingOf (c .read-notation .result) ≡ readNotation (s .longitude) (record { degrees = s .degrees; minutes = s .minutes; fraction = s .hundred-thousandths; letter = s .letter })
+read c = c .read-notation .ensures
+
 returns : tie.Need-returns
-returns c = let e = sym (c .before .before .before .read-notation .ensures) ∙ ap readingOf (c .before .z .given .1) in
+returns c = let e = sym (read (c .before .before .before)) ∙ ap readingOf (c .before .z .given .1) in
     (rw e, rw e (kept w64 (c .before .z .given .0 .0) (c .known-told .given .0 .1)))
 
 returns-2 : tie.Need-returns-2
-returns-2 c = let e = sym (c .before .before .before .before .read-notation .ensures) ∙ ap readingOf (c .before .before .r .given .1) in
+returns-2 c = let e = sym (read (c .before .before .before .before)) ∙ ap readingOf (c .before .before .r .given .1) in
     (rw e (kept w64 (c .refusal-number .result) (c .refusal-number .ok) ∙ c .refusal-number .ensures), rw e)
 
 pub marker-read-notation-spec : {M : Type 1} → statement M

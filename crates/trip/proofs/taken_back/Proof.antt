@@ -12,12 +12,11 @@ use Rattle.trip.proofs.taken_back.Tie as tie
 
 went : (c : tie.After-way-back) → let s = c .before .before .before .before .before .args in answerOf (c .way-back .result) ≡ wayBack (now (s .image)) (pointOf (s .there)) (s .there .height)
 went c =
-    let a = c .before .before .before .before .before .args .there in
-    rw (
-      kept w64 (a .latitude) (c .before .before .before .struct-told .given .0 .1),
-      kept w64 (a .longitude) (c .before .before .struct-told2 .given .1 .0 .1),
-      kept w64 (a .height) (c .before .struct-told3 .given .1 .1 .0 .1),
-    ) at (c .way-back .ensures)
+    let s = c .before .before .before .before .before .args in
+    let latitude = kept w64 (s .there .latitude) (c .before .before .before .struct-told .given .0 .1) in
+    let longitude = kept w64 (s .there .longitude) (c .before .before .struct-told2 .given .1 .0 .1) in
+    let height = kept w64 (s .there .height) (c .before .struct-told3 .given .1 .1 .0 .1) in
+    c .way-back .ensures ∙ (λ i. wayBack (now (s .image)) (record { latitude = latitude i; longitude = longitude i }) (height i))
 
 returns : tie.Need-returns
 unfolding returnOf
