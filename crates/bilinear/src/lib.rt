@@ -65,7 +65,7 @@ fn lowered(n: u64) -> i64
 }
 
 // The weighted mean of four natural corner values, rounded. The least of them is taken from each and added again to the mean of what is left,
-// so that the mixes are as small as they can be.
+// which makes the mixes smaller.
 fn rounded_mean(sw: u64, se: u64, nw: u64, ne: u64, u: u64, v: u64, p: u64, q: u64) -> u64
     requires { ⌜ Below 20000000 sw se nw ne × InCell u v p q ⌝ }
     ensures { λ r. ⌜ r ≡ mean sw se nw ne u v p q ⌝ }

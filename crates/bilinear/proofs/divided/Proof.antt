@@ -11,12 +11,18 @@ bounds : (c : tie.After-blend2) → Small (c .before .before .args .p) (c .befor
 bounds c = small (c .before .before .pre) (c .before .blend .ensures) (c .blend2 .ensures)
 
 blend-requires : tie.Need-blend-requires
-blend-requires c κs = let r = c .pre in
-    mixable (r .north) (r .height .most) (omega (arith, south-row r)) (omega (arith, north-row r))
+blend-requires c κs =
+    let r = c .pre in
+    let south = south-row r in
+    let north = north-row r in
+    mixable (r .north) (r .height .most) (omega arith) (omega arith)
 
 blend-requires-2 : tie.Need-blend-requires-2
-blend-requires-2 c κs = let r = c .before .pre in
-    mixable (r .north) (r .height .most) (omega (arith, south-left r)) (omega (arith, north-left r))
+blend-requires-2 c κs =
+    let r = c .before .pre in
+    let south = south-left r in
+    let north = north-left r in
+    mixable (r .north) (r .height .most) (omega arith) (omega arith)
 
 mul-rest : tie.Need-mul-rest
 mul-rest c = omega (arith, bounds c)
