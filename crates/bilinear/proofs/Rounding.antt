@@ -1,9 +1,9 @@
--- The laws over ℕ behind the code: a mix lies between its values, and the division by P × Q done in two steps loses nothing.
+-- The laws over ℕ behind the code: a mix lies between its values and is raised with them, and the division by P × Q done in two steps loses nothing.
 use mathlib.Core.Path.{_≡_, sym, ap, _∙_}
-use Prim.Native.Nat.{ℕ, suc, _+_, _-_, _*_, _/_, _%_, _≤_, _<_}
-use native.Mathlib.Nat.{div-add-mod', mod-lt, div-le-self, div-le-of-le-mul, div-lt-iff-lt-mul, le-div-iff-mul-le, mul-add-div-right, mul-pos, mul-le-mul, mul-le-mul-left, mul-le-mul-right, sub-add-cancel, le-of-lt, le-of-suc-le-suc}
+use Prim.Native.Nat.{ℕ, suc, _+_, _-_, _*_, _/_, _%_, _≤_, _<_, max}
+use native.Mathlib.Nat.{div-add-mod', mod-lt, div-le-self, div-le-of-le-mul, div-lt-iff-lt-mul, le-div-iff-mul-le, mul-add-div-right, mul-div-le, lt-mul-div-succ, mul-pos, mul-le-mul, mul-le-mul-left, mul-le-mul-right, sub-add-cancel, le-of-lt, le-of-suc-le-suc, le-max-left, le-max-right, max-le}
 use native.Mathlib.Omega.{arith}
-use Rattle.bilinear.specs.Mean.{mix, quotient, mean, Rows}
+use Rattle.bilinear.specs.Mean.{Spacing, InCell, mix, quotient, mean, Mixable, Rows}
 
 -- between the two values
 pub mix-le : {a b w whole : ℕ} (M : ℕ) → w ≤ whole → a ≤ M → b ≤ M → mix a b w whole ≤ whole * M
@@ -14,7 +14,28 @@ pub mix-ge : {a b w whole : ℕ} (M : ℕ) → w ≤ whole → M ≤ a → M ≤
 mix-ge {a} {b} {w} {whole} M h p q =
     omega (arith, mul-le-mul-left (whole - w) p, mul-le-mul-left w q, ap (λ (x : ℕ). x * M) (sub-add-cancel h))
 
--- the rounded mean lies between the corner values
+-- raised with its values
+mix-raised : {w whole : ℕ} (a b m : ℕ) → w ≤ whole → mix (a + m) (b + m) w whole ≡ mix a b w whole + whole * m
+mix-raised {w} {whole} a b m h = omega (arith, ap (λ (x : ℕ). x * m) (sub-add-cancel h))
+
+-- Numbers up to 100,000,000 can be mixed.
+pub mixable : {a b w whole : ℕ} → w ≤ whole → whole ≤ 100000000 → a ≤ 100000000 → b ≤ 100000000 → Mixable a b w whole
+mixable h k p q = record { part = h; most = omega (arith, mul-le-mul k (max-le p q)) }
+
+pub mix-most : {a b w whole : ℕ} → Mixable a b w whole → mix a b w whole ≤ 18440000000000000000
+mix-most {a} {b} m = omega (arith, mix-le (max a b) (m .part) (le-max-left a b) (le-max-right a b))
+
+-- the area of a cell
+pub area-least : {p q : ℕ} → Spacing p → Spacing q → 0 < p * q
+area-least h k = mul-pos (h .least) (k .least)
+
+pub area-most : {p q : ℕ} → Spacing p → Spacing q → p * q ≤ 10000000000000000
+area-most h k = mul-le-mul (h .most) (k .most)
+
+pub cell-area : {u v p q : ℕ} → InCell u v p q → 0 < p * q
+cell-area cell = area-least (cell .height) (cell .width)
+
+-- the rounded mean lies between the corner values, and is raised with them
 module _ {u v P Q : ℕ} (h : u ≤ P) (k : v ≤ Q) (pq : 0 < P * Q) where
   pub mean-le : {sw se nw ne : ℕ} (M : ℕ) → sw ≤ M → se ≤ M → nw ≤ M → ne ≤ M → mean sw se nw ne u v P Q ≤ M
   unfolding quotient
@@ -27,6 +48,20 @@ module _ {u v P Q : ℕ} (h : u ≤ P) (k : v ≤ Q) (pq : 0 < P * Q) where
   mean-ge {sw} {se} {nw} {ne} M a b c d =
       let above : P * (Q * M) ≤ mix (mix sw se v Q) (mix nw ne v Q) u P = mix-ge (Q * M) h (mix-ge M k a b) (mix-ge M k c d) in
       le-div-iff-mul-le {k = 2 * (P * Q)} (omega arith) .1 (omega arith)
+
+  mean-raised : (sw se nw ne m : ℕ) → mean (sw + m) (se + m) (nw + m) (ne + m) u v P Q ≡ m + mean sw se nw ne u v P Q
+  unfolding quotient
+  mean-raised sw se nw ne m =
+      let inner = mix-raised (mix sw se v Q) (mix nw ne v Q) (Q * m) h in
+      rw (mix-raised sw se m k, mix-raised nw ne m k, inner)
+      (ap (λ (x : ℕ). x / (2 * (P * Q))) {y = m * (2 * (P * Q)) + (2 * mix (mix sw se v Q) (mix nw ne v Q) u P + P * Q)} (omega arith)
+      ∙ mul-add-div-right (omega arith) m _)
+
+  -- Values lowered by m have a mean that is lower by m.
+  pub mean-lowered : {sw se nw ne : ℕ} (m : ℕ) → m ≤ sw → m ≤ se → m ≤ nw → m ≤ ne
+      → m + mean (sw - m) (se - m) (nw - m) (ne - m) u v P Q ≡ mean sw se nw ne u v P Q
+  mean-lowered {sw} {se} {nw} {ne} m a b c d =
+      rw (← mean-raised (sw - m) (se - m) (nw - m) (ne - m) m, sub-add-cancel a, sub-add-cancel b, sub-add-cancel c, sub-add-cancel d)
 
 -- what the numbers are at most in the division of two rows: t is the mix of the rows divided by q, and left that of what q leaves of them
 pub record Small (p q t left : ℕ) : Type 0 where
@@ -51,8 +86,8 @@ module _ {s n u p q : ℕ} (r : Rows s n u p q) where
   pub small : {t left : ℕ} → t ≡ mix (s / q) (n / q) u p → left ≡ mix (s % q) (n % q) u p → Small p q t left
   small {t} {left} et el =
       record {
-        area-least = mul-pos (r .height .least) (r .width .least);
-        area-most = mul-le-mul (r .height .most) (r .width .most);
+        area-least = area-least (r .height) (r .width);
+        area-most = area-most (r .height) (r .width);
         t-most = omega (arith, div-le-self t p, mix-le 20000000 (r .north) south-row north-row);
         rest-most =
             omega
@@ -79,6 +114,14 @@ module _ (s n u p q t left : ℕ) (et : t ≡ mix (s / q) (n / q) u p) (el : lef
 -- The quotient is k, where n is at least k and below k + 1 divisors.
 pub quotient-of : (k n d : ℕ) → 0 < d → k * d ≤ n → n < suc k * d → n / d ≡ k
 quotient-of k n d h l m = omega (arith, le-div-iff-mul-le {k = d} h .1 l, div-lt-iff-lt-mul {k = d} {y = suc k} h .1 m)
+
+-- One half, added before the division as half the divisor.
+pub half-added : (n a : ℕ) → 0 < a → (n + a / 2) / a ≡ (2 * n + a) / (2 * a)
+half-added n a h =
+    sym
+    (quotient-of ((n + a / 2) / a) (2 * n + a) (2 * a) (omega arith)
+    (omega (arith, mul-div-le (n + a / 2) a))
+    (omega (arith, lt-mul-div-succ (n + a / 2) h)))
 
 -- Of at most two areas, the rounded quotient is at most 2.
 pub quotient-most : (rest area : ℕ) → 0 < area → rest ≤ 2 * area → (2 * rest + area) / (2 * area) ≤ 2

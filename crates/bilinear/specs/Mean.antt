@@ -1,5 +1,5 @@
 -- What the weighting function asks of its numbers, and the weighted mean over natural numbers that its steps compute.
-use Prim.Native.Nat.{ℕ, _+_, _-_, _*_, _/_, _≤_}
+use Prim.Native.Nat.{ℕ, _+_, _-_, _*_, _/_, _≤_, max}
 use lib.IntN.{natAbs}
 use Rattle.rules.specs.Bilinear.{Square}
 
@@ -34,12 +34,10 @@ quotient s n u P Q = (2 * mix s n u P + P * Q) / (2 * (P * Q))
 abbrev pub mean : (sw se nw ne u v P Q : ℕ) → ℕ
 mean sw se nw ne u v P Q = quotient (mix sw se v Q) (mix nw ne v Q) u P Q
 
--- What keeps a mix in 64 bits.
+-- What keeps a mix in 64 bits, and the mix plus one half of an area of 10^16.
 pub record Mixable (a b w whole : ℕ) : Type 0 where
-  pub first : a ≤ 100000000
-  pub second : b ≤ 100000000
   pub part : w ≤ whole
-  pub most : whole ≤ 100000000
+  pub most : whole * max a b ≤ 18440000000000000000
 
 -- Mixes of rows whose values are at most 20,000,000.
 pub record Rows (s n u P Q : ℕ) : Type 0 where

@@ -1,11 +1,11 @@
 // The bilinear value of document 01, exact in 64 bits, and the cell of a point along an axis.
 use rules::Axis;
 ghost use mathlib.Core.Path.{_≡_};
-ghost use Prim.Native.Nat.{_+_, _*_, _/_, _≤_, _<_, min};
+ghost use Prim.Native.Nat.{_+_, _*_, _/_, _≤_, _<_, min, max};
 ghost use lib.IntN.{pos, natAbs, _+ℤ_};
 ghost use Rattle.rules.specs.Questions.{Sized};
 ghost use Rattle.rules.specs.Bilinear.{cellOf, partOf, squareOf, bilinear};
-ghost use Rattle.bilinear.specs.Mean.{CornersWithin, InCell, mix, quotient, mean, Mixable, Rows, Below};
+ghost use Rattle.bilinear.specs.Mean.{CornersWithin, InCell, mix, quotient, mean, Mixable, Spacing, Rows, Below};
 
 // A cell's index along one axis, and a point's part of the cell.
 pub struct Place {
@@ -27,6 +27,12 @@ fn smaller(a: u64, b: u64) -> u64
     ensures { λ r. ⌜ r ≡ min a b ⌝ }
 {
     if a < b { a } else { b }
+}
+
+fn larger(a: u64, b: u64) -> u64
+    ensures { λ r. ⌜ r ≡ max a b ⌝ }
+{
+    if a < b { b } else { a }
 }
 
 // The bilinear value of four corner values, south row first, at u from the south side and v from the west side of a cell of p by q.
@@ -58,13 +64,27 @@ fn lowered(n: u64) -> i64
     n as i64 - 10_000_000
 }
 
-// The weighted mean of four natural corner values, rounded: the two rows are mixed, then the mixes divided.
+// The weighted mean of four natural corner values, rounded. The least of them is taken from each and added again to the mean of what is left,
+// which makes the mixes smaller.
 fn rounded_mean(sw: u64, se: u64, nw: u64, ne: u64, u: u64, v: u64, p: u64, q: u64) -> u64
+    requires { ⌜ Below 20000000 sw se nw ne × InCell u v p q ⌝ }
+    ensures { λ r. ⌜ r ≡ mean sw se nw ne u v p q ⌝ }
+{
+    let least = smaller(smaller(sw, se), smaller(nw, ne));
+    least + mean_of_rows(sw - least, se - least, nw - least, ne - least, u, v, p, q)
+}
+
+// The same mean by rows: the two rows are mixed, then the mixes divided. Where the test holds, p times the larger mix is at most 1.844 * 10^19,
+// so the mix of both fits 64 bits with half of p * q, and one division is enough.
+fn mean_of_rows(sw: u64, se: u64, nw: u64, ne: u64, u: u64, v: u64, p: u64, q: u64) -> u64
     requires { ⌜ Below 20000000 sw se nw ne × InCell u v p q ⌝ }
     ensures { λ r. ⌜ r ≡ mean sw se nw ne u v p q ⌝ }
 {
     let south = blend(sw, se, v, q);
     let north = blend(nw, ne, v, q);
+    if p * (larger(south, north) / 1_048_576 + 1) <= 17_585_000_000_000 {
+        return divided_at_once(south, north, u, p, q);
+    }
     divided(south, north, u, p, q)
 }
 
@@ -76,8 +96,17 @@ fn blend(a: u64, b: u64, w: u64, whole: u64) -> u64
     (whole - w) * a + w * b
 }
 
-// The mix of two rows divided by p * q, plus one half, rounded down. The mix itself does not fit 64 bits, so each row is divided by q first,
-// then the mix of those quotients by p; rest is what both divisions left.
+// The mix of two rows divided by p * q, plus one half, rounded down, where the mix and one half of p * q fit 64 bits.
+fn divided_at_once(s: u64, n: u64, u: u64, p: u64, q: u64) -> u64
+    requires { ⌜ Mixable s n u p × Spacing p × Spacing q ⌝ }
+    ensures { λ r. ⌜ r ≡ quotient s n u p q ⌝ }
+{
+    let area = p * q;
+    (blend(s, n, u, p) + area / 2) / area
+}
+
+// The same for any rows, where the mix itself may not fit 64 bits: each row is divided by q first, then the mix of those quotients by p; rest
+// is what both divisions left.
 fn divided(s: u64, n: u64, u: u64, p: u64, q: u64) -> u64
     requires { ⌜ Rows s n u p q ⌝ }
     ensures { λ r. ⌜ r ≡ quotient s n u p q ⌝ }

@@ -2,7 +2,7 @@
 use mathlib.Core.Path.{ap, _∙_}
 use Prim.Native.Nat.{ℕ, _+_, _*_, _/_, _%_}
 use native.Mathlib.Omega.{arith}
-use Rattle.bilinear.proofs.Rounding.{Small, small, south-row, north-row, south-left, north-left, quotient-is, quotient-most}
+use Rattle.bilinear.proofs.Rounding.{mixable, Small, small, south-row, north-row, south-left, north-left, quotient-is, quotient-most}
 use borrow.Author.Needs.{needs}
 use Rattle.bilinear.proofs.divided.Statement.{statement}
 use Rattle.bilinear.proofs.divided.Tie as tie
@@ -11,10 +11,18 @@ bounds : (c : tie.After-blend2) → Small (c .before .before .args .p) (c .befor
 bounds c = small (c .before .before .pre) (c .before .blend .ensures) (c .blend2 .ensures)
 
 blend-requires : tie.Need-blend-requires
-blend-requires c κs = omega (arith, south-row (c .pre), north-row (c .pre))
+blend-requires c κs =
+    let r = c .pre in
+    let south = south-row r in
+    let north = north-row r in
+    mixable (r .north) (r .height .most) (omega arith) (omega arith)
 
 blend-requires-2 : tie.Need-blend-requires-2
-blend-requires-2 c κs = omega (arith, south-left (c .before .pre), north-left (c .before .pre))
+blend-requires-2 c κs =
+    let r = c .before .pre in
+    let south = south-left r in
+    let north = north-left r in
+    mixable (r .north) (r .height .most) (omega arith) (omega arith)
 
 mul-rest : tie.Need-mul-rest
 mul-rest c = omega (arith, bounds c)

@@ -1,8 +1,7 @@
 -- `bilinear::weigh` meets its contract. Assumes nothing.
 use borrow.Author.Needs.{needs}
 use mathlib.Core.Path.{_≡_, ap, _∙_}
-use Prim.Native.Nat.{ℕ, _*_, _≤_, _<_}
-use native.Mathlib.Nat.{mul-pos}
+use Prim.Native.Nat.{ℕ, _≤_}
 use native.Mathlib.Omega.{arith}
 use lib.IntN.{ℤ, pos, natAbs, _+ℤ_}
 use mir.Syntax.{w64}
@@ -11,15 +10,11 @@ use mir.ValLaws.{toZ-ofZ}
 use Rattle.integers.specs.Difference.{order, var, lit, _⊕_}
 use Rattle.integers.specs.Machine.{zarith}
 use Rattle.integers.specs.Distance.{abs-is}
-use Rattle.bilinear.specs.Mean.{InCell}
 use Rattle.rules.specs.Bilinear.{squareOf}
-use Rattle.bilinear.proofs.Rounding.{mean-le}
+use Rattle.bilinear.proofs.Rounding.{cell-area, mean-le}
 use Rattle.bilinear.proofs.Raising.{Raised, raised-value}
 use Rattle.bilinear.proofs.weigh.Statement.{statement}
 use Rattle.bilinear.proofs.weigh.Tie as tie
-
-area : {u v p q : ℕ} → InCell u v p q → 0 < p * q
-area cell = mul-pos (cell .height .least) (cell .width .least)
 
 lowered-requires : tie.Need-lowered-requires
 lowered-requires c κs =
@@ -29,7 +24,7 @@ lowered-requires c κs =
     let r1 = r2 .before .before in
     let cell = r1 .before .before .pre .1 in
     omega
-    (arith, c .rounded-mean .ensures, mean-le (cell .north) (cell .east) (area cell) 20000000 (r1 .raised .ensures .1) (r2 .raised2 .ensures .1) (r3 .raised3 .ensures .1) (r4 .raised4 .ensures .1))
+    (arith, c .rounded-mean .ensures, mean-le (cell .north) (cell .east) (cell-area cell) 20000000 (r1 .raised .ensures .1) (r2 .raised2 .ensures .1) (r3 .raised3 .ensures .1) (r4 .raised4 .ensures .1))
 
 -- a corner, read back by the machine and raised
 corner : (z : ℤ) (n : ℕ) → natAbs z ≤ 10000000 → pos n ≡ toZ w64 (ofZ w64 z) +ℤ pos 10000000 → pos n ≡ z +ℤ pos 10000000
@@ -59,7 +54,7 @@ returns c =
       northeast-is = corner (sq .northeast) _ (most .northeast) (r4 .raised4 .ensures .0);
     } in
     toZ-ofZ w64 (c .lowered .result) (record { sfits = c .lowered .ok })
-    ∙ same _ _ _ _ (m .rounded-mean .ensures) (c .lowered .ensures) (raised-value (cell .north) (cell .east) (area cell) up)
+    ∙ same _ _ _ _ (m .rounded-mean .ensures) (c .lowered .ensures) (raised-value (cell .north) (cell .east) (cell-area cell) up)
 
 pub weigh-spec : {M : Type 1} → statement M
 weigh-spec =
