@@ -1,11 +1,11 @@
 -- The laws of an offset's cell and of its part of it, for an axis that questions 3 and 4 let pass.
-use mathlib.Core.Bool.{true, _&&_}
+use mathlib.Core.Bool.{true}
 use mathlib.Core.Path.{_≡_, ap}
 use Prim.Native.Nat.{ℕ, _+_, _-_, _*_, _/_, _≤_, _<_, min}
 use native.Mathlib.Decide.{decLe}
 use native.Mathlib.Nat.{mul-le-mul, min-le-left, min-le-right, min-eq-left, min-eq-right, le-min, mul-le-mul-right, le-trans, div-mul-le-self, le-div-iff-mul-le, lt-div-mul-add}
 use native.Mathlib.Omega.{arith}
-use lib.IntN.{ℤ, pos, natAbs, _-ℤ_}
+use lib.IntN.{ℤ, natAbs}
 use lib.Signed.{_≤ℤ_, leZ}
 use Rattle.integers.specs.Difference.{≤ℤ-parts, order, var, lit, _⊕_, _⊖_}
 use Rattle.integers.specs.Distance.{size, abs-is}

@@ -1,8 +1,8 @@
 -- Each question precedes the next: where two have the answer no, the first one's number is given. Computed on damaged bytes of grid G.
-use mathlib.Core.List.{List}
+use mathlib.Core.List.{List, [], _∷_}
 use mathlib.Core.Path.{_≡_, refl}
 use Prim.Native.Nat.{ℕ}
-use lib.IntN.{pos, negℤ}
+use lib.IntN.{ℤ, pos}
 use lib.ListN.{drop, set}
 use Rattle.integers.specs.Rounding.{roundHalfUp}
 use Rattle.rules.specs.Answers.{number}
@@ -12,6 +12,7 @@ use Rattle.rules.specs.Bilinear.{cellOf, partOf, weighted, bilinear, val
 use Rattle.rules.specs.Lookup.{onAxis, inside, nodePasses, cellPasses, question9, lookup}
 use Rattle.rules.specs.Ways.{question7, plus, minus, back, settled, iterate, out, wayBack, wayOut}
 use Rattle.rules.specs.Check.{every, largest, allPass, stepNorth, stepEast, stepsOf, gentle, question12, findingsOf, check, gridCheck}
+use Rattle.rules.specs.Lists.{question14, convertList, listBack}
 use Rattle.rules.specs.Figures.{gridG, variant, at}
 
 -- G with one row, without a latitude spacing, with a far southern bound, with another back, with a node beyond its limit.
@@ -30,6 +31,10 @@ otherBack b = set b 140 149
 abbrev badNode : List ℕ → List ℕ
 badNode b = set b 51 1
 
+-- one fix, its height beyond question 7's limit
+abbrev tooHigh : List ℤ
+tooHigh = at (pos 500) (pos 500) .latitude ∷ at (pos 500) (pos 500) .longitude ∷ pos 110000001 ∷ []
+
 pub record Order : Type 0 where
   pub length-first : opening (drop 109 (oneRow gridG)) ≡ number 1
   pub edition-before-counts : opening (oneRow (set gridG 144 2)) ≡ number 2
@@ -37,6 +42,9 @@ pub record Order : Type 0 where
   pub spacings-before-bounds : opening (farSouth (noSpacing gridG)) ≡ number 4
   pub bounds-before-bytes : opening (otherBack (farSouth gridG)) ≡ number 5
   pub image-before-fix : wayBack (otherBack gridG) (at (pos 500) (pos 500)) (pos 110000001) ≡ number 6
+  -- one fix beyond its limits, and room for no answer
+  pub image-before-lengths : listBack (otherBack gridG) tooHigh [] ≡ number 6
+  pub lengths-before-fix : listBack gridG tooHigh [] ≡ number 14
   pub limits-before-bounds : wayBack gridG (at (pos 2001) (pos 500)) (pos 110000001) ≡ number 7
   pub bounds-before-nodes : wayBack (badNode gridG) (at (pos 2001) (pos 500)) (pos 0) ≡ number 8
   pub nodes-before-iterate : wayOut (badNode gridG) (at (pos 50) (pos 500)) (pos 0) ≡ number 9
@@ -46,7 +54,7 @@ pub record Order : Type 0 where
   pub nodes-before-slopes : gridCheck (badNode gridG) ≡ number 9
 
 pub order : Order
-unfolding gridG roundHalfUp u64At i32At i64At trailerOf plane question3 question4 boundsWithin question5 question6 judge opening cellOf partOf weighted bilinear valueAt onAxis inside nodePasses cellPasses question9 lookup question7 plus minus back settled iterate out wayBack wayOut every largest allPass stepNorth stepEast stepsOf gentle question12 findingsOf check gridCheck
+unfolding gridG roundHalfUp u64At i32At i64At trailerOf plane question3 question4 boundsWithin question5 question6 judge opening cellOf partOf weighted bilinear valueAt onAxis inside nodePasses cellPasses question9 lookup question7 plus minus back settled iterate out wayBack wayOut every largest allPass stepNorth stepEast stepsOf gentle question12 findingsOf check gridCheck question14 convertList listBack
 order =
     record {
       length-first = refl;
@@ -55,6 +63,8 @@ order =
       spacings-before-bounds = refl;
       bounds-before-bytes = refl;
       image-before-fix = refl;
+      image-before-lengths = refl;
+      lengths-before-fix = refl;
       limits-before-bounds = refl;
       bounds-before-nodes = refl;
       nodes-before-iterate = refl;

@@ -1,6 +1,6 @@
 -- Document 01, "Grid G and its figures": the figures marked *, as one claim about the rules, computed from the bytes of G and its variants.
 use mathlib.Core.List.{List, [], _∷_, _++_}
-use mathlib.Core.Bool.{true, false}
+use mathlib.Core.Bool.{false}
 use mathlib.Core.Path.{_≡_, refl}
 use Prim.Native.Nat.{ℕ, _+_, _-_, _*_, _/_, _%_}
 use lib.IntN.{ℤ, pos, negsuc, negℤ, _+ℤ_}

@@ -6,7 +6,6 @@ use lib.Dec.{eqb}
 use lib.IntN.{ℤ, pos}
 use lib.ListN.{length}
 use Rattle.rules.specs.declared.Point.{Point}
-use Rattle.rules.specs.declared.Geometry.{Geometry}
 use Rattle.rules.specs.declared.Position.{Position}
 use Rattle.rules.specs.Answers.{Outcome, values, number, ask, andThen}
 use Rattle.rules.specs.Image.{gridOf}
