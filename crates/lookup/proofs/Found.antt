@@ -1,51 +1,92 @@
--- The lookup in terms of a cell's corners, the limits that question 9 establishes of them, and the place of a point in its cell.
-use mathlib.Core.Bool.{true, _&&_}
-use mathlib.Core.Path.{_≡_, refl, sym, ap, _∙_}
-use Prim.Native.Nat.{ℕ, _≤_}
+-- The lookup in terms of the held cell around a point, the limits that question 9 establishes of its values, and the cell kept for a
+-- further point.
+use mathlib.Core.Bool.{true, false, _&&_}
+use mathlib.Core.List.{List}
+use mathlib.Core.Path.{_≡_, refl, sym, _∙_}
+use Prim.Native.Nat.{ℕ, _-_, _≤_}
 use native.Mathlib.Nat.{mul-pos}
 use native.Mathlib.Omega.{arith}
+use lib.Dec.{leb, ltb}
 use lib.IntN.{ℤ, natAbs}
+use borrow.Author.Tests.{leb-true, ltb-true}
 use Rattle.integers.specs.Tests.{and-left, and-right}
+use Rattle.rules.specs.declared.Axis.{Axis}
+use Rattle.rules.specs.declared.Geometry.{Geometry}
 use Rattle.rules.specs.declared.Point.{Point}
 use Rattle.rules.specs.declared.Node.{Node}
-use Rattle.rules.specs.declared.Correction.{Correction}
-use Rattle.rules.specs.Answers.{values, ask}
+use Rattle.rules.specs.Answers.{values, number, ask}
 use Rattle.rules.specs.Image.{Grid}
-use Rattle.rules.specs.Questions.{Open}
-use Rattle.rules.specs.Bilinear.{offset, squareOf, valueAt}
+use Rattle.rules.specs.Questions.{Sized, Open}
+use Rattle.rules.specs.Bilinear.{offset, partOf, squareOf, valueAt}
 use Rattle.rules.specs.Lookup.{inside, nodePasses, cellPasses, question9, lookup}
-use Rattle.rules.specs.Ways.{sourceOf}
-use Rattle.rules.proofs.Cells.{offset-most, part-most, on-latitude, on-longitude}
-use Rattle.rules.proofs.Opening.{asked, followed}
+use Rattle.rules.proofs.Cells.{offset-most, part-most, cell-start, cell-most, cell-is, on-latitude, on-longitude}
+use Rattle.rules.proofs.Opening.{asked}
 use Rattle.rules.proofs.Limits.{NodeWithin, node-within}
 use Rattle.bilinear.specs.Mean.{CornersWithin, InCell}
 use Rattle.bilinear.proofs.Laws.{value-within}
 use Rattle.nodes.specs.Cell.{cellAt, allPass, square}
 use Rattle.nodes.specs.declared.Cell.{Cell}
-use Rattle.lookup.specs.Values.{spotAt, valuesIn, correctionsIn, heightIn}
+use Rattle.lookup.specs.declared.HeldCell.{HeldCell}
+use Rattle.lookup.specs.declared.Offsets.{Offsets}
+use Rattle.lookup.specs.Values.{cellFor, sideFor, heldAt, Bounded, partsIn, reaches, liesIn, Holds, valuesIn, correctionsIn, heightIn}
 
 -- The lookup puts question 9 to the corners of the point's cell, and weighs their values.
-pub lookup-is : (g : Grid) (p : Point) → let s = spotAt g p in
-    lookup g p ≡ ask (allPass (s .cell)) 9 (values (valuesIn (s .cell) (s .north) (s .east) (g .geometry .latitude .spacing) (g .geometry .longitude .spacing)))
-unfolding lookup question9 cellPasses allPass cellAt valueAt spotAt valuesIn correctionsIn heightIn
+lookup-is : (g : Grid) (p : Point) → let h = heldAt g p in lookup g p ≡ ask (h .passes) 9 (values (valuesIn h (g .geometry) p))
+unfolding lookup question9 cellPasses allPass cellAt valueAt partOf heldAt valuesIn correctionsIn heightIn
 lookup-is g p = refl
 
--- The parts of a point in the bounds are at most the spacings.
-pub spot-inside : {size : ℕ} (g : Grid) (p : Point) → Open size (g .geometry) → inside (g .geometry) p ≡ true → let s = spotAt g p in
-    InCell (s .north) (s .east) (g .geometry .latitude .spacing) (g .geometry .longitude .spacing)
-unfolding spotAt
-spot-inside g p o i =
+-- In the cell around the point: 9 where it does not pass, else its values.
+pub lookup-refused : (g : Grid) (p : Point) (h : HeldCell) → h ≡ heldAt g p → h .passes ≡ false → lookup g p ≡ number 9
+lookup-refused g p h e t = rw (lookup-is g p, ← e, t)
+
+pub lookup-found : (g : Grid) (p : Point) (h : HeldCell) → h ≡ heldAt g p → h .passes ≡ true → lookup g p ≡ values (valuesIn h (g .geometry) p)
+lookup-found g p h e t = rw (lookup-is g p, ← e, t)
+
+-- A point in the bounds of an opened image.
+pub bounded : {size : ℕ} {g : Geometry} {p : Point} → Open size g → inside g p ≡ true → Bounded g p
+bounded o i = record { latitude = o .latitude; longitude = o .longitude; point = i }
+
+-- The cell around it holds it.
+pub held-holds : {size : ℕ} (g : Grid) (p : Point) → Open size (g .geometry) → inside (g .geometry) p ≡ true → Holds (heldAt g p) (g .geometry) p
+unfolding heldAt partOf
+held-holds g p o i =
     let a = g .geometry .latitude in
     let b = g .geometry .longitude in
     record {
-      north = part-most a (offset a (p .latitude)) (o .latitude .sized) (offset-most a (p .latitude) (on-latitude (g .geometry) p i));
-      east = part-most b (offset b (p .longitude)) (o .longitude .sized) (offset-most b (p .longitude) (on-longitude (g .geometry) p i));
-      height = omega arith;
-      width = omega arith;
+      bounded = bounded o i;
+      south = cell-start a (offset a (p .latitude));
+      west = cell-start b (offset b (p .longitude));
+      parts = record {
+        north = part-most a (offset a (p .latitude)) (o .latitude .sized) (offset-most a (p .latitude) (on-latitude (g .geometry) p i));
+        east = part-most b (offset b (p .longitude)) (o .longitude .sized) (offset-most b (p .longitude) (on-longitude (g .geometry) p i));
+        height = omega arith;
+        width = omega arith;
+      };
+      asked = refl;
     }
 
+-- An angle that lies in the cell of another has that cell.
+kept-along : (a : Axis) (z w : ℤ) → Sized a → reaches (sideFor a z) (a .spacing) (offset a w) ≡ true → cellFor a w ≡ cellFor a z
+unfolding reaches
+kept-along a z w o h =
+    let x = offset a w in
+    let past = leb (sideFor a z) x in
+    let near = ltb (x - sideFor a z) (a .spacing) in
+    cell-is a (cellFor a z) x o (cell-most a (offset a z)) (leb-true _ _ (and-left past near h)) (ltb-true _ _ (and-right past near h))
+
+-- The cell around a point is that around a further one which lies in it.
+pub kept-cell : {size : ℕ} (g : Grid) (r p : Point) → Open size (g .geometry) → liesIn (heldAt g r) (g .geometry) p ≡ true → heldAt g r ≡ heldAt g p
+unfolding heldAt liesIn
+kept-cell g r p o h =
+    let a = g .geometry .latitude in
+    let b = g .geometry .longitude in
+    let north = reaches (sideFor a (r .latitude)) (a .spacing) (offset a (p .latitude)) in
+    let n = kept-along a (r .latitude) (p .latitude) (o .latitude .sized) (and-left north _ h) in
+    let e = kept-along b (r .longitude) (p .longitude) (o .longitude .sized) (and-right north _ h) in
+    rw (n, e)
+
 -- Corners that pass question 9 are within the limit of each of the three values.
-pub corners-within : {M : ℕ} (f : Node → ℤ) → ((n : Node) → NodeWithin n → natAbs (f n) ≤ M) → (c : Cell) → allPass c ≡ true → CornersWithin M (squareOf (square f c))
+corners-within : {M : ℕ} (f : Node → ℤ) → ((n : Node) → NodeWithin n → natAbs (f n) ≤ M) → (c : Cell) → allPass c ≡ true → CornersWithin M (squareOf (square f c))
 unfolding allPass
 corners-within f small c h =
     let sw = nodePasses (c .southwest) in
@@ -61,37 +102,29 @@ corners-within f small c h =
       northeast = small _ (node-within (c .northeast) (and-right nw ne north));
     }
 
+-- What `weigh` asks of one value's square, and of the point's parts, in a held cell that passes question 9.
+pub weighable : (f : Node → ℤ) → ((n : Node) → NodeWithin n → natAbs (f n) ≤ 10000000)
+    → {h : HeldCell} {g : Geometry} {p : Point} {l : List (List ℤ)} {o : Offsets} → h .passes ≡ true → Holds h g p → l ≡ square f (h .corners) → o ≡ partsIn h g p
+    → CornersWithin 10000000 (squareOf l) × InCell (o .north) (o .east) (g .latitude .spacing) (g .longitude .spacing)
+weighable f small {h} t k s o = (rw s (corners-within f small (h .corners) (sym (k .asked) ∙ t)), rw o (k .parts))
+
+-- The values in a held cell that passes question 9 are within its limits.
+pub values-within : {h : HeldCell} {g : Geometry} {p : Point} → h .passes ≡ true → Holds h g p → NodeWithin (valuesIn h g p)
+unfolding valuesIn correctionsIn heightIn
+values-within {h} t k =
+    let c = sym (k .asked) ∙ t in
+    let north = k .parts .north in
+    let east = k .parts .east in
+    let area = mul-pos (k .parts .height .least) (k .parts .width .least) in
+    record {
+      latitude = value-within _ north east area (corners-within (λ n. n .latitude) (λ n w. w .latitude) (h .corners) c);
+      longitude = value-within _ north east area (corners-within (λ n. n .longitude) (λ n w. w .longitude) (h .corners) c);
+      height = value-within _ north east area (corners-within (λ n. n .height) (λ n w. w .height) (h .corners) c);
+    }
+
 -- The values of a lookup in the bounds are within question 9's limits.
 pub found-within : {size : ℕ} (g : Grid) (p : Point) (n : Node) → Open size (g .geometry) → inside (g .geometry) p ≡ true → lookup g p ≡ values n → NodeWithin n
-unfolding valuesIn correctionsIn heightIn
 found-within g p n o i h =
-    let s = spotAt g p in
-    let t = asked (allPass (s .cell)) 9 _ n (sym (lookup-is g p) ∙ h) in
-    let k = spot-inside g p o i in
-    let area = mul-pos (k .height .least) (k .width .least) in
-    let e : valuesIn (s .cell) (s .north) (s .east) (g .geometry .latitude .spacing) (g .geometry .longitude .spacing) ≡ n = cc (t .1) in
-    let w : NodeWithin (valuesIn (s .cell) (s .north) (s .east) (g .geometry .latitude .spacing) (g .geometry .longitude .spacing)) =
-    record {
-      latitude = value-within _ (k .north) (k .east) area (corners-within (λ n. n .latitude) (λ n w. w .latitude) (s .cell) (t .0));
-      longitude = value-within _ (k .north) (k .east) area (corners-within (λ n. n .longitude) (λ n w. w .longitude) (s .cell) (t .0));
-      height = value-within _ (k .north) (k .east) area (corners-within (λ n. n .height) (λ n w. w .height) (s .cell) (t .0));
-    } in
-    rw e at w
-
--- The same where the corrections alone, or the height alone, are looked up.
-pub corrections-within : {size : ℕ} (g : Grid) (p : Point) (c : Correction) → Open size (g .geometry) → inside (g .geometry) p ≡ true
-    → sourceOf g .corrections p ≡ values c → (natAbs (c .latitude) ≤ 10000000) × (natAbs (c .longitude) ≤ 10000000)
-corrections-within g p c o i h =
-    let f = followed (lookup g p) _ c h in
-    let w = found-within g p (f .0) o i (f .1) in
-    let e : _≡_ {A = Correction} (record { latitude = f .0 .latitude; longitude = f .0 .longitude }) c = cc (f .2) in
-    let a : f .0 .latitude ≡ c .latitude = ap (λ (x : Correction). x .latitude) e in
-    let b : f .0 .longitude ≡ c .longitude = ap (λ (x : Correction). x .longitude) e in
-    (rw a at (w .latitude), rw b at (w .longitude))
-
-pub height-within : {size : ℕ} (g : Grid) (p : Point) (z : ℤ) → Open size (g .geometry) → inside (g .geometry) p ≡ true
-    → sourceOf g .height p ≡ values z → natAbs z ≤ 1000000
-height-within g p z o i h =
-    let f = followed (lookup g p) _ z h in
-    let e : f .0 .height ≡ z = cc (f .2) in
-    rw e at (found-within g p (f .0) o i (f .1) .height)
+    let t = asked (heldAt g p .passes) 9 _ n (sym (lookup-is g p) ∙ h) in
+    let e : valuesIn (heldAt g p) (g .geometry) p ≡ n = cc (t .1) in
+    rw e at (values-within (t .0) (held-holds g p o i))

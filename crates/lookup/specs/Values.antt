@@ -1,58 +1,86 @@
--- The place of a point in its cell, the values there from the nodes at the corners, and what a lookup of some of them answers.
-use Prim.Native.Nat.{ℕ}
+-- The cell around a point as it is read from an image, which points lie in such a cell, and the values there.
+use mathlib.Core.Bool.{Bool, true, _&&_}
+use mathlib.Core.Path.{_≡_}
+use Prim.Native.Nat.{ℕ, _-_, _*_, _≤_}
+use lib.Dec.{leb, ltb}
 use lib.IntN.{ℤ}
 use Rattle.rules.specs.declared.Axis.{Axis}
+use Rattle.rules.specs.declared.Geometry.{Geometry}
 use Rattle.rules.specs.declared.Point.{Point}
 use Rattle.rules.specs.declared.Node.{Node}
 use Rattle.rules.specs.declared.Correction.{Correction}
-use Rattle.rules.specs.Answers.{Outcome, values, number, numberOf}
 use Rattle.rules.specs.Image.{Grid}
-use Rattle.rules.specs.Bilinear.{offset, cellOf, partOf, squareOf, bilinear}
-use Rattle.nodes.specs.Cell.{cellAt, square}
+use Rattle.rules.specs.Questions.{AxisPasses}
+use Rattle.rules.specs.Bilinear.{offset, cellOf, squareOf, bilinear}
+use Rattle.rules.specs.Lookup.{inside}
+use Rattle.bilinear.specs.Mean.{InCell}
+use Rattle.nodes.specs.Cell.{cellAt, allPass, square}
 use Rattle.nodes.specs.declared.Cell.{Cell}
-use Rattle.lookup.specs.declared.Spot.{Spot}
-use Rattle.lookup.specs.declared.Corrected.{Corrected}
-use Rattle.lookup.specs.declared.Corrected.the-variants as corrected
-use Rattle.lookup.specs.declared.Leveled.{Leveled}
-use Rattle.lookup.specs.declared.Leveled.the-variants as leveled
+use Rattle.lookup.specs.declared.HeldCell.{HeldCell}
+use Rattle.lookup.specs.declared.Offsets.{Offsets}
 
--- The cell and the part of an angle.
+-- The cell of an angle, and the offset of the cell's south or west side.
 abbrev pub cellFor : Axis → ℤ → ℕ
 cellFor a z = cellOf a (offset a z)
 
-abbrev pub partFor : Axis → ℤ → ℕ
-partFor a z = partOf a (offset a z)
+abbrev pub sideFor : Axis → ℤ → ℕ
+sideFor a z = cellFor a z * a .spacing
 
-unfoldable pub spotAt : Grid → Point → Spot
-spotAt g p =
+-- The cell of a point in the bounds.
+unfoldable pub heldAt : Grid → Point → HeldCell
+heldAt g p =
     let a = g .geometry .latitude in
     let o = g .geometry .longitude in
-    record {
-      cell = cellAt g (cellFor a (p .latitude)) (cellFor o (p .longitude));
-      north = partFor a (p .latitude);
-      east = partFor o (p .longitude);
-    }
+    let c = cellAt g (cellFor a (p .latitude)) (cellFor o (p .longitude)) in
+    record { corners = c; south = sideFor a (p .latitude); west = sideFor o (p .longitude); passes = allPass c }
 
-unfoldable pub correctionsIn : Cell → (u v P Q : ℕ) → Correction
-correctionsIn c u v P Q =
-    record {
-      latitude = bilinear (squareOf (square (λ n. n .latitude) c)) u v P Q;
-      longitude = bilinear (squareOf (square (λ n. n .longitude) c)) u v P Q;
-    }
+-- A point in the bounds of a geometry that questions 3 to 5 let pass.
+pub record Bounded (g : Geometry) (p : Point) : Type 0 where
+  pub latitude : AxisPasses 90000000000 (g .latitude)
+  pub longitude : AxisPasses 180000000000 (g .longitude)
+  pub point : inside g p ≡ true
 
-unfoldable pub heightIn : Cell → (u v P Q : ℕ) → ℤ
-heightIn c u v P Q = bilinear (squareOf (square (λ n. n .height) c)) u v P Q
+-- How far it lies from the south and the west bound.
+abbrev pub offsetsOf : Geometry → Point → Offsets
+offsetsOf g p = record { north = offset (g .latitude) (p .latitude); east = offset (g .longitude) (p .longitude) }
 
-unfoldable pub valuesIn : Cell → (u v P Q : ℕ) → Node
-valuesIn c u v P Q =
-    let s = correctionsIn c u v P Q in
-    record { latitude = s .latitude; longitude = s .longitude; height = heightIn c u v P Q }
+-- How far it lies from the south and the west side of a held cell.
+abbrev pub partsIn : HeldCell → Geometry → Point → Offsets
+partsIn h g p = record { north = offsetsOf g p .north - h .south; east = offsetsOf g p .east - h .west }
 
--- The number or the values of each enum, case by case.
-abbrev pub correctedOf : Corrected → Outcome Correction
-correctedOf (corrected.Found c) = values c
-correctedOf (corrected.Refused r) = number (numberOf r)
+-- An offset at or past a side, and less than one spacing from it.
+unfoldable pub reaches : ℕ → ℕ → ℕ → Bool
+reaches side spacing x = leb side x && ltb (x - side) spacing
 
-abbrev pub leveledOf : Leveled → Outcome ℤ
-leveledOf (leveled.Found z) = values z
-leveledOf (leveled.Refused r) = number (numberOf r)
+-- A point for which that holds along both axes.
+unfoldable pub liesIn : HeldCell → Geometry → Point → Bool
+liesIn h g p =
+    reaches (h .south) (g .latitude .spacing) (offsetsOf g p .north)
+    && reaches (h .west) (g .longitude .spacing) (offsetsOf g p .east)
+
+-- A held cell holds a point in the bounds that is at or past both of its sides, and at most one spacing from each. The cell's answer to
+-- question 9 is that of its corners.
+pub record Holds (h : HeldCell) (g : Geometry) (p : Point) : Type 0 where
+  pub bounded : Bounded g p
+  pub south : h .south ≤ offsetsOf g p .north
+  pub west : h .west ≤ offsetsOf g p .east
+  pub parts : InCell (partsIn h g p .north) (partsIn h g p .east) (g .latitude .spacing) (g .longitude .spacing)
+  pub asked : h .passes ≡ allPass (h .corners)
+
+-- The bilinear value of one of a node's values, from the corners of a held cell.
+abbrev pub weighed : (Node → ℤ) → HeldCell → Geometry → Point → ℤ
+weighed value h g p =
+    bilinear (squareOf (square value (h .corners)))
+    (partsIn h g p .north) (partsIn h g p .east)
+    (g .latitude .spacing) (g .longitude .spacing)
+
+unfoldable pub correctionsIn : HeldCell → Geometry → Point → Correction
+correctionsIn h g p = record { latitude = weighed (λ n. n .latitude) h g p; longitude = weighed (λ n. n .longitude) h g p }
+
+unfoldable pub heightIn : HeldCell → Geometry → Point → ℤ
+heightIn h g p = weighed (λ n. n .height) h g p
+
+unfoldable pub valuesIn : HeldCell → Geometry → Point → Node
+valuesIn h g p =
+    let s = correctionsIn h g p in
+    record { latitude = s .latitude; longitude = s .longitude; height = heightIn h g p }

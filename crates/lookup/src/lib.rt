@@ -1,5 +1,4 @@
-// Questions 7 to 9 of a point, and the lookup at it: the point's cell and the three values there.
-use bilinear::Place;
+// Questions 7 to 9 of a point, and the lookup at it: the cell around the point, read from the image, and the values in that cell.
 use bilinear::locate;
 use bilinear::weigh;
 use image::far_bound;
@@ -19,35 +18,27 @@ use rules::Point;
 use rules::Refusal;
 ghost use mathlib.Core.Path.{_≡_};
 ghost use mathlib.Core.Bool.{true};
-ghost use Prim.Native.Nat.{_≤_};
-ghost use lib.IntN.{natAbs};
 ghost use Rattle.rules.specs.Answers.{values, lookupOf};
 ghost use Rattle.rules.specs.Image.{gridOf};
-ghost use Rattle.rules.specs.Questions.{Sized, AxisPasses, opening};
-ghost use Rattle.rules.specs.Bilinear.{offset, cellOf, partOf};
+ghost use Rattle.rules.specs.Questions.{AxisPasses, opening};
+ghost use Rattle.rules.specs.Bilinear.{offset};
 ghost use Rattle.rules.specs.Lookup as lookup;
-ghost use Rattle.rules.specs.Ways.{question7, sourceOf};
-ghost use Rattle.bilinear.specs.Mean.{InCell};
-ghost use Rattle.nodes.specs.Cell.{allPass};
-ghost use Rattle.lookup.specs.Values.{spotAt, valuesIn, correctionsIn, heightIn, correctedOf, leveledOf};
+ghost use Rattle.rules.specs.Ways.{question7};
+ghost use Rattle.lookup.specs.Values.{heldAt, reaches, liesIn, Bounded, offsetsOf, partsIn, Holds, valuesIn, correctionsIn, heightIn};
 
-// A point's cell and its part of the cell, from the south and from the west side.
-pub struct Spot {
-    pub cell: Cell,
+// A cell read from an image: the nodes at its corners, how far its south and west side lie from the bounds there, and
+// the answer to question 9.
+pub struct HeldCell {
+    pub corners: Cell,
+    pub south: u64,
+    pub west: u64,
+    pub passes: bool,
+}
+
+// How far a point lies from a south and from a west side.
+pub struct Offsets {
     pub north: u64,
     pub east: u64,
-}
-
-// What a lookup of corrections alone answers.
-pub enum Corrected {
-    Found(Correction),
-    Refused(Refusal),
-}
-
-// What a lookup of the height alone answers.
-pub enum Leveled {
-    Found(i64),
-    Refused(Refusal),
 }
 
 // Question 7, with the way's limit on heights.
@@ -95,72 +86,80 @@ pub fn look_up(image: &[u8], g: Geometry, p: Point) -> Lookup
     requires { ⌜ (opening (now image) ≡ values g) × (lookup.inside g p ≡ true) ⌝ }
     ensures { λ r. ⌜ lookupOf r ≡ lookup.lookup (gridOf (now (image .entry)) g) p ⌝ }
 {
-    let s = spot_of(image, g, p);
-    let c = s.cell;
-    if !cell_passes(c) {
+    let h = cell_around(image, g, p);
+    if !h.passes {
         return Lookup::Refused(Refusal::NodeLimits);
     }
-    Lookup::Found(values_in(c, s.north, s.east, g.latitude.spacing, g.longitude.spacing))
+    Lookup::Found(values_in(h, g, p))
 }
 
-// The corrections alone, after the same question.
-pub fn corrections_at(image: &[u8], g: Geometry, p: Point) -> Corrected
+// The cell of a point in the bounds, with question 9 put to its corners.
+pub fn cell_around(image: &[u8], g: Geometry, p: Point) -> HeldCell
     requires { ⌜ (opening (now image) ≡ values g) × (lookup.inside g p ≡ true) ⌝ }
-    ensures { λ r. ⌜ correctedOf r ≡ (sourceOf (gridOf (now (image .entry)) g)) .corrections p ⌝ }
-{
-    let s = spot_of(image, g, p);
-    let c = s.cell;
-    if !cell_passes(c) {
-        return Corrected::Refused(Refusal::NodeLimits);
-    }
-    Corrected::Found(corrections_in(c, s.north, s.east, g.latitude.spacing, g.longitude.spacing))
-}
-
-// The quasi-geoid height alone, after the same question.
-pub fn height_at(image: &[u8], g: Geometry, p: Point) -> Leveled
-    requires { ⌜ (opening (now image) ≡ values g) × (lookup.inside g p ≡ true) ⌝ }
-    ensures { λ r. ⌜ leveledOf r ≡ (sourceOf (gridOf (now (image .entry)) g)) .height p ⌝ }
-{
-    let s = spot_of(image, g, p);
-    let c = s.cell;
-    if !cell_passes(c) {
-        return Leveled::Refused(Refusal::NodeLimits);
-    }
-    Leveled::Found(height_in(c, s.north, s.east, g.latitude.spacing, g.longitude.spacing))
-}
-
-// The corners of a point's cell, and the point's part of it along both axes.
-fn spot_of(image: &[u8], g: Geometry, p: Point) -> Spot
-    requires { ⌜ (opening (now image) ≡ values g) × (lookup.inside g p ≡ true) ⌝ }
-    ensures { λ r. ⌜ r ≡ spotAt (gridOf (now (image .entry)) g) p ⌝ }
+    ensures { λ r. ⌜ r ≡ heldAt (gridOf (now (image .entry)) g) p ⌝ }
 {
     let latitude = g.latitude;
     let longitude = g.longitude;
-    let row = place_on(latitude, p.latitude);
-    let column = place_on(longitude, p.longitude);
-    let cell = cell_at(image, g, row.cell, column.cell);
-    Spot {
-        cell,
-        north: row.part,
-        east: column.part,
+    let from = offsets_of(g, p);
+    let row = locate(latitude, from.north);
+    let column = locate(longitude, from.east);
+    let corners = cell_at(image, g, row.cell, column.cell);
+    let passes = cell_passes(corners);
+    HeldCell {
+        corners,
+        south: from.north - row.part,
+        west: from.east - column.part,
+        passes,
     }
 }
 
-// The cell of an angle on an axis, and the angle's part of it.
-fn place_on(a: Axis, z: i64) -> Place
-    requires { ⌜ AxisPasses 180000000000 a × (lookup.onAxis a z ≡ true) ⌝ }
-    ensures { λ r. ⌜ (r .cell ≡ cellOf a (offset a z)) × (r .part ≡ partOf a (offset a z)) ⌝ }
+// Does a point in the bounds lie in a held cell: at or past its south and west side, and less than one spacing from each?
+pub fn lies_in(h: HeldCell, g: Geometry, p: Point) -> bool
+    requires { ⌜ Bounded g p ⌝ }
+    ensures { λ r. ⌜ r ≡ liesIn h g p ⌝ }
 {
-    locate(a, (z - a.start) as u64)
+    let from = offsets_of(g, p);
+    if is_reached(h.south, g.latitude.spacing, from.north) {
+        is_reached(h.west, g.longitude.spacing, from.east)
+    } else {
+        false
+    }
 }
 
-// The three values at u from the south side and v from the west side of a cell of p by q.
-fn values_in(c: Cell, u: u64, v: u64, p: u64, q: u64) -> Node
-    requires { ⌜ (allPass c ≡ true) × InCell u v p q ⌝ }
-    ensures { λ r. ⌜ r ≡ valuesIn c u v p q ⌝ }
+// Is an offset at or past a side, and less than one spacing from it?
+fn is_reached(side: u64, spacing: u64, x: u64) -> bool
+    ensures { λ r. ⌜ r ≡ reaches side spacing x ⌝ }
 {
-    let shift = corrections_in(c, u, v, p, q);
-    let height = height_in(c, u, v, p, q);
+    if side <= x { x - side < spacing } else { false }
+}
+
+// How far a point in the bounds lies from the south and the west bound.
+fn offsets_of(g: Geometry, p: Point) -> Offsets
+    requires { ⌜ Bounded g p ⌝ }
+    ensures { λ r. ⌜ r ≡ offsetsOf g p ⌝ }
+{
+    let latitude = g.latitude;
+    let longitude = g.longitude;
+    let north = offset_on(latitude, p.latitude);
+    let east = offset_on(longitude, p.longitude);
+    Offsets { north, east }
+}
+
+// The distance of an angle on an axis from the axis's start.
+fn offset_on(a: Axis, z: i64) -> u64
+    requires { ⌜ AxisPasses 180000000000 a × (lookup.onAxis a z ≡ true) ⌝ }
+    ensures { λ r. ⌜ r ≡ offset a z ⌝ }
+{
+    (z - a.start) as u64
+}
+
+// The three values at a point in a held cell that passes question 9.
+fn values_in(h: HeldCell, g: Geometry, p: Point) -> Node
+    requires { ⌜ (h .passes ≡ true) × Holds h g p ⌝ }
+    ensures { λ r. ⌜ r ≡ valuesIn h g p ⌝ }
+{
+    let shift = corrections_in(h, g, p);
+    let height = height_in(h, g, p);
     Node {
         latitude: shift.latitude,
         longitude: shift.longitude,
@@ -169,12 +168,26 @@ fn values_in(c: Cell, u: u64, v: u64, p: u64, q: u64) -> Node
 }
 
 // The two corrections there.
-fn corrections_in(c: Cell, u: u64, v: u64, p: u64, q: u64) -> Correction
-    requires { ⌜ (allPass c ≡ true) × InCell u v p q ⌝ }
-    ensures { λ r. ⌜ r ≡ correctionsIn c u v p q ⌝ }
+pub fn corrections_in(h: HeldCell, g: Geometry, p: Point) -> Correction
+    requires { ⌜ (h .passes ≡ true) × Holds h g p ⌝ }
+    ensures { λ r. ⌜ r ≡ correctionsIn h g p ⌝ }
 {
-    let latitude = weigh(latitude_square(c), u, v, p, q);
-    let longitude = weigh(longitude_square(c), u, v, p, q);
+    let c = h.corners;
+    let at = parts_in(h, g, p);
+    let latitude = weigh(
+        latitude_square(c),
+        at.north,
+        at.east,
+        g.latitude.spacing,
+        g.longitude.spacing,
+    );
+    let longitude = weigh(
+        longitude_square(c),
+        at.north,
+        at.east,
+        g.latitude.spacing,
+        g.longitude.spacing,
+    );
     Correction {
         latitude,
         longitude,
@@ -182,9 +195,29 @@ fn corrections_in(c: Cell, u: u64, v: u64, p: u64, q: u64) -> Correction
 }
 
 // The quasi-geoid height there.
-fn height_in(c: Cell, u: u64, v: u64, p: u64, q: u64) -> i64
-    requires { ⌜ (allPass c ≡ true) × InCell u v p q ⌝ }
-    ensures { λ r. ⌜ r ≡ heightIn c u v p q ⌝ }
+pub fn height_in(h: HeldCell, g: Geometry, p: Point) -> i64
+    requires { ⌜ (h .passes ≡ true) × Holds h g p ⌝ }
+    ensures { λ r. ⌜ r ≡ heightIn h g p ⌝ }
 {
-    weigh(height_square(c), u, v, p, q)
+    let c = h.corners;
+    let at = parts_in(h, g, p);
+    weigh(
+        height_square(c),
+        at.north,
+        at.east,
+        g.latitude.spacing,
+        g.longitude.spacing,
+    )
+}
+
+// How far a point lies from the south and the west side of a held cell.
+fn parts_in(h: HeldCell, g: Geometry, p: Point) -> Offsets
+    requires { ⌜ Holds h g p ⌝ }
+    ensures { λ r. ⌜ r ≡ partsIn h g p ⌝ }
+{
+    let from = offsets_of(g, p);
+    Offsets {
+        north: from.north - h.south,
+        east: from.east - h.west,
+    }
 }

@@ -3,7 +3,7 @@ use mathlib.Core.Bool.{true}
 use mathlib.Core.Path.{_≡_, ap}
 use Prim.Native.Nat.{ℕ, _+_, _-_, _*_, _/_, _≤_, _<_, min}
 use native.Mathlib.Decide.{decLe}
-use native.Mathlib.Nat.{mul-le-mul, min-le-left, min-le-right, min-eq-left, min-eq-right, le-min, mul-le-mul-right, le-trans, div-mul-le-self, le-div-iff-mul-le, lt-div-mul-add}
+use native.Mathlib.Nat.{mul-le-mul, min-le-left, min-le-right, min-eq-left, min-eq-right, le-min, mul-le-mul-right, le-trans, div-mul-le-self, le-div-iff-mul-le, div-lt-iff-lt-mul, lt-div-mul-add}
 use native.Mathlib.Omega.{arith}
 use lib.IntN.{ℤ, natAbs}
 use lib.Signed.{_≤ℤ_, leZ}
@@ -51,10 +51,23 @@ pub cell-start : (a : Axis) (x : ℕ) → cellOf a x * a .spacing ≤ x
 unfolding cellOf
 cell-start a x = le-trans (mul-le-mul-right (a .spacing) (min-le-left (x / a .spacing) (a .count - 2))) (div-mul-le-self x (a .spacing))
 
+-- Less its part, an offset is the cell's start.
+pub less-part : (a : Axis) (x : ℕ) → x - partOf a x ≡ cellOf a x * a .spacing
+unfolding partOf
+less-part a x = omega (arith, cell-start a x)
+
 -- A larger offset lies in the same cell or in a later one.
 pub cell-order : (a : Axis) (x y : ℕ) → Sized a → x ≤ y → cellOf a x ≤ cellOf a y
 unfolding cellOf
 cell-order a x y o h = le-min (le-div-iff-mul-le (o .spacing-least) .1 (le-trans (cell-start a x) h)) (cell-most a x)
+
+-- An offset at or past a cell's start, and less than one spacing from it, lies in that cell.
+pub cell-is : (a : Axis) (k x : ℕ) → Sized a → k ≤ a .count - 2 → k * a .spacing ≤ x → x - k * a .spacing < a .spacing → cellOf a x ≡ k
+unfolding cellOf
+cell-is a k x o m h l =
+    let least : k ≤ x / a .spacing = le-div-iff-mul-le (o .spacing-least) .1 h in
+    let most : x / a .spacing < k + 1 = div-lt-iff-lt-mul (o .spacing-least) .1 (omega arith) in
+    omega arith
 
 -- The part is at most the spacing.
 pub part-most : (a : Axis) (x : ℕ) → Sized a → x ≤ (a .count - 1) * a .spacing → partOf a x ≤ a .spacing

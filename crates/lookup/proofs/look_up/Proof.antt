@@ -1,38 +1,29 @@
--- `lookup::look_up` meets its contract: question 9 is put to the corners of the point's cell, and their values are weighed. Assumes nothing.
-use mathlib.Core.Bool.{Bool}
-use mathlib.Core.Path.{_≡_, sym, ap, _∙_}
+-- `lookup::look_up` meets its contract: question 9 as the cell around the point answers it, then the values there. Assumes nothing.
+use mathlib.Core.Path.{ap, sym, _∙_}
 use borrow.Author.Tests.{not-true, not-false}
 use denote.Ref.{now}
 use Rattle.rules.specs.Answers.{values}
 use Rattle.rules.specs.Image.{gridOf}
 use Rattle.rules.proofs.Opening.{opened}
-use Rattle.nodes.specs.Cell.{allPass}
-use Rattle.lookup.specs.declared.Spot.{Spot}
-use Rattle.lookup.specs.Values.{spotAt, valuesIn}
-use Rattle.lookup.proofs.Found.{lookup-is, spot-inside}
+use Rattle.lookup.proofs.Found.{lookup-refused, lookup-found, held-holds}
 use borrow.Author.Needs.{needs}
 use Rattle.lookup.proofs.look_up.Statement.{statement}
 use Rattle.lookup.proofs.look_up.Tie as tie
 
--- question 9, of the corners of the point's cell
-passes : (c : tie.After-cell-passes) (b : Bool) → c .cell-passes .result ≡ b → let s = c .before .before .before .before .args in allPass (spotAt (gridOf (now (s .image)) (s .g)) (s .p) .cell) ≡ b
-passes c b e = ap (λ (s : Spot). allPass (s .cell)) (sym (c .before .before .spot-of .ensures)) ∙ sym (c .cell-passes .ensures) ∙ e
-
 returns : tie.Need-returns
-returns c = let s = c .before .before .before .before .before .args in
-    rw (lookup-is (gridOf (now (s .image)) (s .g)) (s .p), passes (c .before) _ (not-true _ (c .if1 .taken)))
+returns c = let t = c .before .before in
+    let s = t .before .before .args in
+    sym (lookup-refused (gridOf (now (s .image)) (s .g)) (s .p) _ (t .cell-around .ensures) (not-true _ (c .if1 .taken)))
 
 values-in-requires : tie.Need-values-in-requires
-values-in-requires c κs = let s = c .before .before .before .before .before in (
-  sym (c .before .cell-passes .ensures) ∙ not-false _ (c .if1 .left),
-  rw (c .before .before .before .spot-of .ensures) (spot-inside (gridOf (now (s .args .image)) (s .args .g)) (s .args .p) (opened _ _ (s .pre .0)) (s .pre .1)),
-)
+values-in-requires c κs = let t = c .before .before in
+    let s = t .before .before in
+    (not-false _ (c .if1 .left), rw (t .cell-around .ensures) (held-holds (gridOf (now (s .args .image)) (s .args .g)) (s .args .p) (opened _ _ (s .pre .0)) (s .pre .1)))
 
 returns-2 : tie.Need-returns-2
-returns-2 c = let s = c .before .before .before .before .before .before .args in
-    rw (lookup-is (gridOf (now (s .image)) (s .g)) (s .p), passes (c .before .before) _ (not-false _ (c .before .if1 .left)))
-    (ap values (c .values-in .ensures ∙ ap (λ (a : Spot). valuesIn (a .cell) (a .north) (a .east) (s .g .latitude .spacing) (s .g .longitude .spacing)) (c .before .before .before .before .spot-of .ensures)))
+returns-2 c = let t = c .before .before .before in
+    let s = t .before .before .args in
+    ap values (c .values-in .ensures) ∙ sym (lookup-found (gridOf (now (s .image)) (s .g)) (s .p) _ (t .cell-around .ensures) (not-false _ (c .before .if1 .left)))
 
 pub look-up-spec : {M : Type 1} → statement M
-look-up-spec =
-    tie.close (tie.spec (λ c κs. search needs) (λ c κs. search needs) returns values-in-requires returns-2)
+look-up-spec = tie.close (tie.spec (λ c κs. search needs) returns values-in-requires returns-2)
