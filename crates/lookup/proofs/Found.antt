@@ -1,6 +1,6 @@
 -- The lookup in terms of the held cell around a point, the limits that question 9 establishes of its values, and the cell kept for a
 -- further point.
-use mathlib.Core.Bool.{true, false, _&&_}
+use mathlib.Core.Bool.{true, _&&_}
 use mathlib.Core.List.{List}
 use mathlib.Core.Path.{_≡_, refl, sym, _∙_}
 use Prim.Native.Nat.{ℕ, _-_, _≤_}
@@ -14,13 +14,14 @@ use Rattle.rules.specs.declared.Axis.{Axis}
 use Rattle.rules.specs.declared.Geometry.{Geometry}
 use Rattle.rules.specs.declared.Point.{Point}
 use Rattle.rules.specs.declared.Node.{Node}
-use Rattle.rules.specs.Answers.{values, number, ask}
+use Rattle.rules.specs.Answers.{values, ask}
 use Rattle.rules.specs.Image.{Grid}
 use Rattle.rules.specs.Questions.{Sized, Open}
 use Rattle.rules.specs.Bilinear.{offset, partOf, squareOf, valueAt}
 use Rattle.rules.specs.Lookup.{inside, nodePasses, cellPasses, question9, lookup}
+use Rattle.rules.specs.Ways.{sourceOf}
 use Rattle.rules.proofs.Cells.{offset-most, part-most, cell-start, cell-most, cell-is, on-latitude, on-longitude}
-use Rattle.rules.proofs.Opening.{asked}
+use Rattle.rules.proofs.Opening.{asked, asked-then}
 use Rattle.rules.proofs.Limits.{NodeWithin, node-within}
 use Rattle.bilinear.specs.Mean.{CornersWithin, InCell}
 use Rattle.bilinear.proofs.Laws.{value-within}
@@ -35,12 +36,18 @@ lookup-is : (g : Grid) (p : Point) → let h = heldAt g p in lookup g p ≡ ask 
 unfolding lookup question9 cellPasses allPass cellAt valueAt partOf heldAt valuesIn correctionsIn heightIn
 lookup-is g p = refl
 
--- In the cell around the point: 9 where it does not pass, else its values.
-pub lookup-refused : (g : Grid) (p : Point) (h : HeldCell) → h ≡ heldAt g p → h .passes ≡ false → lookup g p ≡ number 9
-lookup-refused g p h e t = rw (lookup-is g p, ← e, t)
+-- The same of the held cell h around the point, and of what the lookup gives the two ways.
+module _ (g : Grid) (p : Point) (h : HeldCell) (e : h ≡ heldAt g p) where
+  pub lookup-in : lookup g p ≡ ask (h .passes) 9 (values (valuesIn h (g .geometry) p))
+  lookup-in = rw e (lookup-is g p)
 
-pub lookup-found : (g : Grid) (p : Point) (h : HeldCell) → h ≡ heldAt g p → h .passes ≡ true → lookup g p ≡ values (valuesIn h (g .geometry) p)
-lookup-found g p h e t = rw (lookup-is g p, ← e, t)
+  pub corrections-from : sourceOf g .corrections p ≡ ask (h .passes) 9 (values (correctionsIn h (g .geometry) p))
+  unfolding valuesIn
+  corrections-from = rw lookup-in (asked-then (h .passes) 9 (valuesIn h (g .geometry) p) _)
+
+  pub height-from : sourceOf g .height p ≡ ask (h .passes) 9 (values (heightIn h (g .geometry) p))
+  unfolding valuesIn
+  height-from = rw lookup-in (asked-then (h .passes) 9 (valuesIn h (g .geometry) p) _)
 
 -- A point in the bounds of an opened image.
 pub bounded : {size : ℕ} {g : Geometry} {p : Point} → Open size g → inside g p ≡ true → Bounded g p

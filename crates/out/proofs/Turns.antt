@@ -1,31 +1,31 @@
--- One turn of the loop is one step of document 01's iteration.
+-- One turn of the loop is one step of document 01's iteration; the height where it settles.
 use mathlib.Core.Path.{_≡_}
 use Prim.Native.Nat.{ℕ, suc, _+_, _-_, _<_}
 use native.Mathlib.Omega.{arith}
+use lib.IntN.{ℤ}
 use Rattle.rules.specs.declared.Point.{Point}
-use Rattle.rules.specs.declared.Correction.{Correction}
-use Rattle.rules.specs.declared.Refusal.{Refusal}
-use Rattle.rules.specs.Answers.{values, number, numberOf}
+use Rattle.rules.specs.Answers.{Outcome, values, number, ask, andThen}
 use Rattle.rules.specs.Image.{Grid}
-use Rattle.rules.specs.Ways.{minus, iterate, sourceOf}
+use Rattle.rules.specs.Ways.{iterate, sourceOf}
+use Rattle.lookup.specs.declared.HeldCell.{HeldCell}
+use Rattle.lookup.specs.Values.{heldAt, heightIn}
+use Rattle.rules.proofs.Opening.{asked-then}
+use Rattle.lookup.proofs.Found.{corrections-from, height-from}
 use Rattle.out.specs.declared.Turn.{Turn}
-use Rattle.out.specs.declared.Turn.the-variants as turn
-use Rattle.out.specs.Turn.{onward, Judged, Evaluated}
+use Rattle.out.specs.Turn.{onward, Evaluated}
 
--- Corrections found lead to p minus the corrections, which is judged; a number ends the way.
-pub evaluated : (g : Grid) (p r q : Point) (c : Correction) (t : Turn) → sourceOf g .corrections r ≡ values c → q ≡ minus p c → Judged (g .geometry) r q t → Evaluated g p r t
-unfolding iterate
-evaluated g p r q c t e m j =
-    record { step = λ left k. rw (e, ← m) (j .step k (λ x. iterate (sourceOf g) 1 p left (k + 1) x)); leads = j .leads }
-
-pub refused : (g : Grid) (p r : Point) (e : Refusal) → sourceOf g .corrections r ≡ number (numberOf e) → Evaluated g p r (turn.Refused e)
-unfolding iterate
-refused g p r e h = record { step = λ left k. rw h; leads = tt }
-
--- With n of five evaluations made, the next one.
-pub one-turn : (g : Grid) (p r : Point) (t : Turn) (n : ℕ) → Evaluated g p r t → n < 5
+-- With n of five evaluations made, the next one, in the cell around r.
+pub one-turn : (g : Grid) (p r : Point) (h : HeldCell) (t : Turn) (n : ℕ) → h ≡ heldAt g r → Evaluated h (g .geometry) p r t → n < 5
     → iterate (sourceOf g) 1 p (5 - n) n r ≡ onward t n (λ q. iterate (sourceOf g) 1 p (5 - (n + 1)) (n + 1) q)
-one-turn g p r t n e h = let k : 5 - n ≡ suc (5 - (n + 1)) = omega arith in rw k (e .step (5 - (n + 1)) n)
+unfolding iterate
+one-turn g p r h t n e v l =
+    let k : 5 - n ≡ suc (5 - (n + 1)) = omega arith in
+    rw (k, corrections-from g r h e, asked-then) (v .step n (λ q. iterate (sourceOf g) 1 p (5 - (n + 1)) (n + 1) q))
+
+-- What takes the height at q comes after question 9, in the cell around q.
+pub height-then : {A : Type 0} (g : Grid) (q : Point) (h : HeldCell) (next : ℤ → Outcome A) → h ≡ heldAt g q
+    → andThen (sourceOf g .height q) next ≡ ask (h .passes) 9 (next (heightIn h (g .geometry) q))
+height-then g q h next e = rw (height-from g q h e) (asked-then (h .passes) 9 (heightIn h (g .geometry) q) next)
 
 -- With all five made, 11.
 pub spent : (g : Grid) (p r : Point) (n : ℕ) → n ≡ 5 → iterate (sourceOf g) 1 p (5 - n) n r ≡ number 11

@@ -1,13 +1,14 @@
 -- What one evaluation of the way out leads to, in terms of document 01's iteration.
 use mathlib.Core.Bool.{true, cond}
 use mathlib.Core.Path.{_≡_}
-use Prim.Native.Nat.{ℕ, suc, _+_}
+use Prim.Native.Nat.{ℕ, _+_}
 use Rattle.rules.specs.declared.Geometry.{Geometry}
 use Rattle.rules.specs.declared.Point.{Point}
 use Rattle.rules.specs.Answers.{Outcome, values, number, ask, numberOf}
-use Rattle.rules.specs.Image.{Grid}
 use Rattle.rules.specs.Lookup.{inside}
-use Rattle.rules.specs.Ways.{Settled, settled, iterate, sourceOf}
+use Rattle.rules.specs.Ways.{Settled, settled, minus}
+use Rattle.lookup.specs.declared.HeldCell.{HeldCell}
+use Rattle.lookup.specs.Values.{correctionsIn}
 use Rattle.out.specs.declared.Turn.{Turn}
 use Rattle.out.specs.declared.Turn.the-variants as turn
 
@@ -23,13 +24,16 @@ LeadsInside g (turn.Refused r) = Unit {0}
 LeadsInside g (turn.Settled q) = inside g q ≡ true
 LeadsInside g (turn.Next q) = inside g q ≡ true
 
--- A turn puts question 10 to q and then the stop rule, whatever the way on is.
+-- Question 10 for q, then the stop rule against r, after n evaluations before this one.
+abbrev pub judging : Geometry → (r q : Point) → ℕ → (Point → Outcome Settled) → Outcome Settled
+judging g r q n more = ask (inside g q) 10 (cond (settled 1 q r) (values (record { point = q; count = n + 1 })) (more q))
+
+-- A turn judges q, whatever the way on is.
 pub record Judged (g : Geometry) (r q : Point) (t : Turn) : Type 0 where
-  pub step : (n : ℕ) (more : Point → Outcome Settled)
-      → ask (inside g q) 10 (cond (settled 1 q r) (values (record { point = q; count = n + 1 })) (more q)) ≡ onward t n more
+  pub step : (n : ℕ) (more : Point → Outcome Settled) → judging g r q n more ≡ onward t n more
   pub leads : LeadsInside g t
 
--- A turn is one evaluation at r of the way out from p: however many evaluations went before and are left.
-pub record Evaluated (g : Grid) (p r : Point) (t : Turn) : Type 0 where
-  pub step : (left n : ℕ) → iterate (sourceOf g) 1 p (suc left) n r ≡ onward t n (λ q. iterate (sourceOf g) 1 p left (n + 1) q)
-  pub leads : LeadsInside (g .geometry) t
+-- A turn is one evaluation at r, in r's cell h, of the way out from p, whatever the way on is: question 9, then p minus the corrections judged.
+pub record Evaluated (h : HeldCell) (g : Geometry) (p r : Point) (t : Turn) : Type 0 where
+  pub step : (n : ℕ) (more : Point → Outcome Settled) → ask (h .passes) 9 (judging g r (minus p (correctionsIn h g r)) n more) ≡ onward t n more
+  pub leads : LeadsInside g t

@@ -1,11 +1,12 @@
 // The way out: from an ETRS89 point and height to Bessel and NAP, for every image, fix and height.
 use image::open;
-use lookup::Corrected;
-use lookup::Leveled;
-use lookup::corrections_at;
+use lookup::HeldCell;
+use lookup::cell_around;
+use lookup::corrections_in;
 use lookup::fix_passes;
-use lookup::height_at;
+use lookup::height_in;
 use lookup::in_bounds;
+use lookup::lies_in;
 use numbers::is_within;
 use rules::Answer;
 use rules::Correction;
@@ -18,11 +19,12 @@ ghost use mathlib.Core.Path.{_≡_};
 ghost use mathlib.Core.Bool.{true};
 ghost use Prim.Native.Nat.{ℕ, _≤_};
 ghost use lib.IntN.{natAbs, _-ℤ_};
-ghost use Rattle.rules.specs.Answers.{values, answerOf, andThen};
+ghost use Rattle.rules.specs.Answers.{values, answerOf, ask, andThen};
 ghost use Rattle.rules.specs.Image.{gridOf};
 ghost use Rattle.rules.specs.Questions.{opening, AxisPasses};
 ghost use Rattle.rules.specs.Lookup.{inside};
 ghost use Rattle.rules.specs.Ways as ways;
+ghost use Rattle.lookup.specs.Values.{heldAt, liesIn, Holds, heightIn};
 ghost use Rattle.out.specs.Turn.{Evaluated, Judged};
 
 // What one evaluation leads to.
@@ -42,7 +44,8 @@ pub fn way_out(image: &[u8], p: Point, height: i64) -> Answer
     }
 }
 
-// The way out over an opened image: at most five evaluations, each from the point that the one before led to.
+// The way out over an opened image: at most five evaluations, each from the point that the one before led to. The last point's cell is
+// held, and is read again only where the next point has left it.
 pub fn out_over(image: &[u8], g: Geometry, p: Point, height: i64) -> Answer
     requires { ⌜ opening (now image) ≡ values g ⌝ }
     ensures { λ r. ⌜ answerOf r ≡ ways.out (ways.sourceOf (gridOf (now (image .entry)) g)) p height ⌝ }
@@ -54,16 +57,20 @@ pub fn out_over(image: &[u8], g: Geometry, p: Point, height: i64) -> Answer
         return Answer::Refused(Refusal::OutsideBounds);
     }
     let mut r = p;
+    let mut held = cell_around(image, g, p);
     let mut n: u64 = 0;
     while n < 5 {
-        match evaluation(image, g, p, r) {
+        match evaluation(held, g, p, r) {
             Turn::Refused(e) => {
                 return Answer::Refused(e);
             }
             Turn::Settled(q) => {
-                return answer_at(image, g, q, height, n + 1);
+                return answer_at(image, g, held, q, height, n + 1);
             }
             Turn::Next(q) => {
+                if !lies_in(held, g, q) {
+                    held = cell_around(image, g, q);
+                }
                 r = q;
             }
         }
@@ -72,15 +79,15 @@ pub fn out_over(image: &[u8], g: Geometry, p: Point, height: i64) -> Answer
     Answer::Refused(Refusal::NotSettled)
 }
 
-// One evaluation at r, of the way out from p: question 9 for r's cell, then what p minus the corrections there leads to.
-fn evaluation(image: &[u8], g: Geometry, p: Point, r: Point) -> Turn
-    requires { ⌜ (opening (now image) ≡ values g) × (inside g p ≡ true) × (inside g r ≡ true) ⌝ }
-    ensures { λ t. ⌜ Evaluated (gridOf (now (image .entry)) g) p r t ⌝ }
+// One evaluation at r, of the way out from p: question 9 for r's cell h, then what p minus the corrections there leads to.
+fn evaluation(h: HeldCell, g: Geometry, p: Point, r: Point) -> Turn
+    requires { ⌜ (inside g p ≡ true) × Holds h g r ⌝ }
+    ensures { λ t. ⌜ Evaluated h g p r t ⌝ }
 {
-    match corrections_at(image, g, r) {
-        Corrected::Found(c) => judged(g, r, moved(p, c)),
-        Corrected::Refused(e) => Turn::Refused(e),
+    if !h.passes {
+        return Turn::Refused(Refusal::NodeLimits);
     }
+    judged(g, r, moved(p, corrections_in(h, g, r)))
 }
 
 // Question 10 for q, then the stop rule against r.
@@ -124,15 +131,26 @@ fn moved(p: Point, c: Correction) -> Point
     }
 }
 
-// The answer at q after so many evaluations: question 9 for its cell, and the height minus the quasi-geoid height there.
-fn answer_at(image: &[u8], g: Geometry, q: Point, height: i64, count: u64) -> Answer
-    requires { ⌜ (opening (now image) ≡ values g) × (inside g q ≡ true) × (natAbs height ≤ 100000000) ⌝ }
+// The answer at q after so many evaluations, in the held cell h where q lies in it, else in q's own.
+fn answer_at(image: &[u8], g: Geometry, h: HeldCell, q: Point, height: i64, count: u64) -> Answer
+    requires { ⌜ (opening (now image) ≡ values g) × (inside g q ≡ true) × (natAbs height ≤ 100000000) × (liesIn h g q ≡ true → h ≡ heldAt (gridOf (now image) g) q) ⌝ }
     ensures { λ r. ⌜ answerOf r ≡ andThen ((ways.sourceOf (gridOf (now (image .entry)) g)) .height q) (λ z. values (ways.position q (height -ℤ z) count)) ⌝ }
 {
-    match height_at(image, g, q) {
-        Leveled::Found(z) => Answer::Values(lowered(q, height, z, count)),
-        Leveled::Refused(e) => Answer::Refused(e),
+    if lies_in(h, g, q) {
+        return answer_in(h, g, q, height, count);
     }
+    answer_in(cell_around(image, g, q), g, q, height, count)
+}
+
+// The answer in q's cell h: question 9, and the height minus the quasi-geoid height there.
+fn answer_in(h: HeldCell, g: Geometry, q: Point, height: i64, count: u64) -> Answer
+    requires { ⌜ Holds h g q × (natAbs height ≤ 100000000) ⌝ }
+    ensures { λ r. ⌜ answerOf r ≡ ask (h .passes) 9 (values (ways.position q (height -ℤ heightIn h g q) count)) ⌝ }
+{
+    if !h.passes {
+        return Answer::Refused(Refusal::NodeLimits);
+    }
+    Answer::Values(lowered(q, height, height_in(h, g, q), count))
 }
 
 fn lowered(q: Point, height: i64, z: i64, count: u64) -> Position

@@ -27,6 +27,18 @@ pub followed : {A B : Type 0} (o : Outcome A) (next : A → Outcome B) (b : B) �
 followed (values a) next b h = (a, refl, h)
 followed (number n) next b h = let z : _≡_ {A = ℕ} 0 1 = cc in absurd (omega arith)
 
+-- A question answered yes, and one answered no.
+pub answered-yes : {A : Type 0} (t : Bool) (n : ℕ) (next : Outcome A) → t ≡ true → ask t n next ≡ next
+answered-yes t n next h = rw h
+
+pub answered-no : {A : Type 0} (t : Bool) (n : ℕ) (next : Outcome A) → t ≡ false → ask t n next ≡ number n
+answered-no t n next h = rw h
+
+-- What takes the values after a question comes after the question.
+pub asked-then : {A B : Type 0} (t : Bool) (n : ℕ) (a : A) (next : A → Outcome B) → andThen (ask t n (values a)) next ≡ ask t n (next a)
+asked-then true n a next = refl
+asked-then false n a next = refl
+
 between-low : (low high n : ℕ) → between low high n ≡ true → low ≤ n
 between-low low high n h = leb-true low n (and-left (leb low n) (leb n high) h)
 

@@ -1,11 +1,11 @@
 -- `lookup::look_up` meets its contract: question 9 as the cell around the point answers it, then the values there. Assumes nothing.
-use mathlib.Core.Path.{ap, sym, _∙_}
+use mathlib.Core.Path.{sym, ap, _∙_}
 use borrow.Author.Tests.{not-true, not-false}
 use denote.Ref.{now}
 use Rattle.rules.specs.Answers.{values}
 use Rattle.rules.specs.Image.{gridOf}
-use Rattle.rules.proofs.Opening.{opened}
-use Rattle.lookup.proofs.Found.{lookup-refused, lookup-found, held-holds}
+use Rattle.rules.proofs.Opening.{opened, answered-yes, answered-no}
+use Rattle.lookup.proofs.Found.{lookup-in, held-holds}
 use borrow.Author.Needs.{needs}
 use Rattle.lookup.proofs.look_up.Statement.{statement}
 use Rattle.lookup.proofs.look_up.Tie as tie
@@ -13,7 +13,7 @@ use Rattle.lookup.proofs.look_up.Tie as tie
 returns : tie.Need-returns
 returns c = let t = c .before .before in
     let s = t .before .before .args in
-    sym (lookup-refused (gridOf (now (s .image)) (s .g)) (s .p) _ (t .cell-around .ensures) (not-true _ (c .if1 .taken)))
+    sym (lookup-in (gridOf (now (s .image)) (s .g)) (s .p) _ (t .cell-around .ensures) ∙ answered-no (t .cell-around .result .passes) 9 _ (not-true _ (c .if1 .taken)))
 
 values-in-requires : tie.Need-values-in-requires
 values-in-requires c κs = let t = c .before .before in
@@ -23,7 +23,7 @@ values-in-requires c κs = let t = c .before .before in
 returns-2 : tie.Need-returns-2
 returns-2 c = let t = c .before .before .before in
     let s = t .before .before .args in
-    ap values (c .values-in .ensures) ∙ sym (lookup-found (gridOf (now (s .image)) (s .g)) (s .p) _ (t .cell-around .ensures) (not-false _ (c .before .if1 .left)))
+    ap values (c .values-in .ensures) ∙ sym (lookup-in (gridOf (now (s .image)) (s .g)) (s .p) _ (t .cell-around .ensures) ∙ answered-yes (t .cell-around .result .passes) 9 _ (not-false _ (c .before .if1 .left)))
 
 pub look-up-spec : {M : Type 1} → statement M
 look-up-spec = tie.close (tie.spec (λ c κs. search needs) returns values-in-requires returns-2)
