@@ -15,7 +15,6 @@ use Rattle.rules.specs.Bilinear.{offset, cellOf, squareOf, bilinear}
 use Rattle.rules.specs.Lookup.{inside}
 use Rattle.bilinear.specs.Mean.{InCell}
 use Rattle.nodes.specs.Cell.{cellAt, allPass, square}
-use Rattle.nodes.specs.declared.Cell.{Cell}
 use Rattle.lookup.specs.declared.HeldCell.{HeldCell}
 use Rattle.lookup.specs.declared.Offsets.{Offsets}
 

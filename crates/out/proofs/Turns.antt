@@ -4,7 +4,7 @@ use Prim.Native.Nat.{ℕ, suc, _+_, _-_, _<_}
 use native.Mathlib.Omega.{arith}
 use lib.IntN.{ℤ}
 use Rattle.rules.specs.declared.Point.{Point}
-use Rattle.rules.specs.Answers.{Outcome, values, number, ask, andThen}
+use Rattle.rules.specs.Answers.{Outcome, number, ask, andThen}
 use Rattle.rules.specs.Image.{Grid}
 use Rattle.rules.specs.Ways.{iterate, sourceOf}
 use Rattle.lookup.specs.declared.HeldCell.{HeldCell}

@@ -17,7 +17,7 @@ use rules::Position;
 use rules::Refusal;
 ghost use mathlib.Core.Path.{_≡_};
 ghost use mathlib.Core.Bool.{true};
-ghost use Prim.Native.Nat.{ℕ, _≤_};
+ghost use Prim.Native.Nat.{_≤_};
 ghost use lib.IntN.{natAbs, _-ℤ_};
 ghost use Rattle.rules.specs.Answers.{values, answerOf, ask, andThen};
 ghost use Rattle.rules.specs.Image.{gridOf};

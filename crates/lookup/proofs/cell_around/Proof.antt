@@ -1,6 +1,6 @@
 -- `lookup::cell_around` meets its contract: the place of the point on each axis gives its cell, whose corners `cell_at` reads. Assumes nothing.
 use mathlib.Core.Path.{_≡_, ap, _∙_}
-use Prim.Native.Nat.{ℕ, _-_}
+use Prim.Native.Nat.{_-_}
 use native.Mathlib.Omega.{arith}
 use lib.ListN.{length}
 use denote.Ref.{now}

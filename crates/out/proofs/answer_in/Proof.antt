@@ -1,17 +1,13 @@
 -- `out::answer_in` meets its contract: question 9 as the cell answers it, then the height there, which is small. Assumes nothing.
 use mathlib.Core.Bool.{true}
 use mathlib.Core.Path.{_≡_, sym, ap, _∙_}
-use lib.IntN.{ℤ, natAbs, _-ℤ_}
-use Prim.Native.Nat.{_≤_}
 use borrow.Author.Tests.{not-true, not-false}
 use mir.Syntax.{w64}
 use Rattle.integers.specs.Machine.{kept}
 use Rattle.rules.specs.Answers.{values}
-use Rattle.rules.specs.Ways.{position}
 use Rattle.rules.proofs.Opening.{answered-yes, answered-no}
 use Rattle.lookup.specs.Values.{valuesIn}
 use Rattle.lookup.proofs.Found.{values-within}
-use borrow.Author.Needs.{needs}
 use Rattle.out.proofs.answer_in.Statement.{statement}
 use Rattle.out.proofs.answer_in.Tie as tie
 

@@ -8,7 +8,6 @@ use Rattle.rules.proofs.Cells.{axis-within, on-latitude, on-longitude}
 use Rattle.lookup.specs.Values.{valuesIn, correctionsIn}
 use Rattle.lookup.proofs.Found.{values-within}
 use Rattle.out.specs.Turn.{judging}
-use borrow.Author.Needs.{needs}
 use Rattle.out.proofs.evaluation.Statement.{statement}
 use Rattle.out.proofs.evaluation.Tie as tie
 
