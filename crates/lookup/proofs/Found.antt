@@ -3,12 +3,12 @@
 use mathlib.Core.Bool.{true, _&&_}
 use mathlib.Core.List.{List}
 use mathlib.Core.Path.{_≡_, refl, sym, _∙_}
-use Prim.Native.Nat.{ℕ, _-_, _≤_}
+use Prim.Native.Nat.{ℕ, _≤_}
 use native.Mathlib.Nat.{mul-pos}
 use native.Mathlib.Omega.{arith}
-use lib.Dec.{leb, ltb}
+use lib.Dec.{leb}
 use lib.IntN.{ℤ, natAbs}
-use borrow.Author.Tests.{leb-true, ltb-true}
+use Rattle.integers.specs.Machine.{zarith}
 use Rattle.integers.specs.Tests.{and-left, and-right}
 use Rattle.rules.specs.declared.Axis.{Axis}
 use Rattle.rules.specs.declared.Geometry.{Geometry}
@@ -54,9 +54,9 @@ pub bounded : {size : ℕ} {g : Geometry} {p : Point} → Open size g → inside
 bounded o i = record { latitude = o .latitude; longitude = o .longitude; point = i }
 
 -- The cell around it holds it.
-pub held-holds : {size : ℕ} (g : Grid) (p : Point) → Open size (g .geometry) → inside (g .geometry) p ≡ true → Holds (heldAt g p) (g .geometry) p
+pub cell-holds : {size : ℕ} (g : Grid) (p : Point) → Open size (g .geometry) → inside (g .geometry) p ≡ true → Holds (heldAt g p) (g .geometry) p
 unfolding heldAt partOf
-held-holds g p o i =
+cell-holds g p o i =
     let a = g .geometry .latitude in
     let b = g .geometry .longitude in
     record {
@@ -77,9 +77,9 @@ kept-along : (a : Axis) (z w : ℤ) → Sized a → reaches (sideFor a z) (a .sp
 unfolding reaches
 kept-along a z w o h =
     let x = offset a w in
-    let past = leb (sideFor a z) x in
-    let near = ltb (x - sideFor a z) (a .spacing) in
-    cell-is a (cellFor a z) x o (cell-most a (offset a z)) (leb-true _ _ (and-left past near h)) (ltb-true _ _ (and-right past near h))
+    let past = and-left (leb (sideFor a z) x) _ h in
+    let near = and-right (leb (sideFor a z) x) _ h in
+    cell-is a (cellFor a z) x o (cell-most a (offset a z)) (omega zarith) (omega zarith)
 
 -- The cell around a point is that around a further one which lies in it.
 pub kept-cell : {size : ℕ} (g : Grid) (r p : Point) → Open size (g .geometry) → liesIn (heldAt g r) (g .geometry) p ≡ true → heldAt g r ≡ heldAt g p
@@ -134,4 +134,4 @@ pub found-within : {size : ℕ} (g : Grid) (p : Point) (n : Node) → Open size 
 found-within g p n o i h =
     let t = asked (heldAt g p .passes) 9 _ n (sym (lookup-is g p) ∙ h) in
     let e : valuesIn (heldAt g p) (g .geometry) p ≡ n = cc (t .1) in
-    rw e at (values-within (t .0) (held-holds g p o i))
+    rw e at (values-within (t .0) (cell-holds g p o i))

@@ -5,7 +5,7 @@ use denote.Ref.{now}
 use Rattle.rules.specs.Answers.{values}
 use Rattle.rules.specs.Image.{gridOf}
 use Rattle.rules.proofs.Opening.{opened, answered-yes, answered-no}
-use Rattle.lookup.proofs.Found.{lookup-in, held-holds}
+use Rattle.lookup.proofs.Found.{lookup-in, cell-holds}
 use borrow.Author.Needs.{needs}
 use Rattle.lookup.proofs.look_up.Statement.{statement}
 use Rattle.lookup.proofs.look_up.Tie as tie
@@ -18,7 +18,7 @@ returns c = let t = c .before .before in
 values-in-requires : tie.Need-values-in-requires
 values-in-requires c κs = let t = c .before .before in
     let s = t .before .before in
-    (not-false _ (c .if1 .left), rw (t .cell-around .ensures) (held-holds (gridOf (now (s .args .image)) (s .args .g)) (s .args .p) (opened _ _ (s .pre .0)) (s .pre .1)))
+    (not-false _ (c .if1 .left), rw (t .cell-around .ensures) (cell-holds (gridOf (now (s .args .image)) (s .args .g)) (s .args .p) (opened _ _ (s .pre .0)) (s .pre .1)))
 
 returns-2 : tie.Need-returns-2
 returns-2 c = let t = c .before .before .before in

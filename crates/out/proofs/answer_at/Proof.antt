@@ -8,7 +8,7 @@ use Rattle.rules.specs.Image.{gridOf}
 use Rattle.rules.specs.Questions.{Open}
 use Rattle.rules.proofs.Opening.{opened}
 use Rattle.lookup.specs.Values.{heldAt}
-use Rattle.lookup.proofs.Found.{bounded, held-holds}
+use Rattle.lookup.proofs.Found.{bounded, cell-holds}
 use Rattle.out.proofs.Turns.{height-then}
 use borrow.Author.Needs.{needs}
 use Rattle.out.proofs.answer_at.Statement.{statement}
@@ -26,7 +26,7 @@ lies-in-requires c κs = let s = c .before in bounded (is-open s) (s .pre .1)
 
 answer-in-requires : tie.Need-answer-in-requires
 answer-in-requires c κs = let s = c .before .before .before in
-    (rw (held c) (held-holds (gridOf (now (s .args .image)) (s .args .g)) (s .args .q) (is-open s) (s .pre .1)), rw (kept w64 (s .args .height) (s .fits .height .sfits)) (s .pre .2))
+    (rw (held c) (cell-holds (gridOf (now (s .args .image)) (s .args .g)) (s .args .q) (is-open s) (s .pre .1)), rw (kept w64 (s .args .height) (s .fits .height .sfits)) (s .pre .2))
 
 returns : tie.Need-returns
 returns c =
@@ -36,7 +36,7 @@ returns c =
 
 answer-in-requires-2 : tie.Need-answer-in-requires-2
 answer-in-requires-2 c κs = let s = c .before .before .before .before in
-    (rw (c .cell-around .ensures) (held-holds (gridOf (now (s .args .image)) (s .args .g)) (s .args .q) (is-open s) (s .pre .1)), rw (kept w64 (s .args .height) (s .fits .height .sfits)) (s .pre .2))
+    (rw (c .cell-around .ensures) (cell-holds (gridOf (now (s .args .image)) (s .args .g)) (s .args .q) (is-open s) (s .pre .1)), rw (kept w64 (s .args .height) (s .fits .height .sfits)) (s .pre .2))
 
 returns-2 : tie.Need-returns-2
 returns-2 c =

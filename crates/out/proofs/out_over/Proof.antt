@@ -17,7 +17,7 @@ use Rattle.rules.specs.Ways.{question7, iterate, out, sourceOf}
 use Rattle.rules.proofs.Opening.{opened}
 use Rattle.rules.proofs.Limits.{fix-within}
 use Rattle.lookup.specs.Values.{heldAt, liesIn}
-use Rattle.lookup.proofs.Found.{bounded, held-holds, kept-cell}
+use Rattle.lookup.proofs.Found.{bounded, cell-holds, kept-cell}
 use Rattle.out.specs.declared.Turn.{Turn}
 use Rattle.out.specs.Turn.{onward, LeadsInside}
 use Rattle.out.proofs.Turns.{one-turn, spent}
@@ -72,7 +72,7 @@ evaluation-requires c κs =
     let l = c .before in
     let e = l .before .before in
     let s = e .before .before .before .before .before in
-    (bounds-pass e, rw (l .loop .inv .3) (held-holds (gridOf (now (s .args .image)) (s .args .g)) (l .loop .r) (opened _ _ (s .pre)) (l .loop .inv .1)))
+    (bounds-pass e, rw (l .loop .inv .3) (cell-holds (gridOf (now (s .args .image)) (s .args .g)) (l .loop .r) (opened _ _ (s .pre)) (l .loop .inv .1)))
 
 -- the iteration from the start, by what the evaluation led to
 led : (c : tie.After-evaluation Inv-loop μ-loop) (t : Turn) → c .evaluation .result ≡ t →
