@@ -25,15 +25,17 @@ use Rattle.rules.proofs.Opening.{asked, asked-then}
 use Rattle.rules.proofs.Limits.{NodeWithin, node-within}
 use Rattle.bilinear.specs.Mean.{CornersWithin, InCell}
 use Rattle.bilinear.proofs.Laws.{value-within}
-use Rattle.nodes.specs.Cell.{cellAt, allPass, square}
+use Rattle.nodes.specs.Cell.{cellAt, allPass, valueOf, square}
+use Rattle.nodes.specs.declared.Value.{Value}
+use Rattle.nodes.specs.declared.Value.the-variants as value
 use Rattle.nodes.specs.declared.Cell.{Cell}
 use Rattle.lookup.specs.declared.HeldCell.{HeldCell}
 use Rattle.lookup.specs.declared.Offsets.{Offsets}
-use Rattle.lookup.specs.Values.{cellFor, sideFor, heldAt, Bounded, partsIn, reaches, liesIn, Holds, valuesIn, correctionsIn, heightIn}
+use Rattle.lookup.specs.Values.{cellFor, sideFor, heldAt, Bounded, partsIn, reaches, liesIn, Holds, valueIn, valuesIn, correctionsIn, heightIn}
 
 -- The lookup puts question 9 to the corners of the point's cell, and weighs their values.
 lookup-is : (g : Grid) (p : Point) → let h = heldAt g p in lookup g p ≡ ask (h .passes) 9 (values (valuesIn h (g .geometry) p))
-unfolding lookup question9 cellPasses allPass cellAt valueAt partOf heldAt valuesIn correctionsIn heightIn
+unfolding lookup question9 cellPasses allPass cellAt valueAt partOf heldAt valueIn valuesIn correctionsIn heightIn
 lookup-is g p = refl
 
 -- The same of the held cell h around the point, and of what the lookup gives the two ways.
@@ -109,24 +111,28 @@ corners-within f small c h =
       northeast = small _ (node-within (c .northeast) (and-right nw ne north));
     }
 
+value-small : (v : Value) (n : Node) → NodeWithin n → natAbs (valueOf v n) ≤ 10000000
+value-small value.LatitudeCorrection n w = w .latitude
+value-small value.LongitudeCorrection n w = w .longitude
+value-small value.Height n w = omega (arith, w .height)
+
 -- What `weigh` asks of one value's square, and of the point's parts, in a held cell that passes question 9.
-pub weighable : (f : Node → ℤ) → ((n : Node) → NodeWithin n → natAbs (f n) ≤ 10000000)
-    → {h : HeldCell} {g : Geometry} {p : Point} {l : List (List ℤ)} {o : Offsets} → h .passes ≡ true → Holds h g p → l ≡ square f (h .corners) → o ≡ partsIn h g p
+pub weighable : (v : Value) {h : HeldCell} {g : Geometry} {p : Point} {l : List (List ℤ)} {o : Offsets} → h .passes ≡ true → Holds h g p → l ≡ square (valueOf v) (h .corners) → o ≡ partsIn h g p
     → CornersWithin 10000000 (squareOf l) × InCell (o .north) (o .east) (g .latitude .spacing) (g .longitude .spacing)
-weighable f small {h} t k s o = (rw s (corners-within f small (h .corners) (sym (k .asked) ∙ t)), rw o (k .parts))
+weighable v {h} t k s o = (rw s (corners-within (valueOf v) (value-small v) (h .corners) (sym (k .asked) ∙ t)), rw o (k .parts))
 
 -- The values in a held cell that passes question 9 are within its limits.
 pub values-within : {h : HeldCell} {g : Geometry} {p : Point} → h .passes ≡ true → Holds h g p → NodeWithin (valuesIn h g p)
-unfolding valuesIn correctionsIn heightIn
+unfolding valueIn valuesIn correctionsIn heightIn
 values-within {h} t k =
     let c = sym (k .asked) ∙ t in
     let north = k .parts .north in
     let east = k .parts .east in
     let area = mul-pos (k .parts .height .least) (k .parts .width .least) in
     record {
-      latitude = value-within _ north east area (corners-within (λ n. n .latitude) (λ n w. w .latitude) (h .corners) c);
-      longitude = value-within _ north east area (corners-within (λ n. n .longitude) (λ n w. w .longitude) (h .corners) c);
-      height = value-within _ north east area (corners-within (λ n. n .height) (λ n w. w .height) (h .corners) c);
+      latitude = value-within _ north east area (corners-within (valueOf value.LatitudeCorrection) (λ n w. w .latitude) (h .corners) c);
+      longitude = value-within _ north east area (corners-within (valueOf value.LongitudeCorrection) (λ n w. w .longitude) (h .corners) c);
+      height = value-within _ north east area (corners-within (valueOf value.Height) (λ n w. w .height) (h .corners) c);
     }
 
 -- The values of a lookup in the bounds are within question 9's limits.

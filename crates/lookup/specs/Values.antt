@@ -14,7 +14,9 @@ use Rattle.rules.specs.Questions.{AxisPasses}
 use Rattle.rules.specs.Bilinear.{offset, cellOf, squareOf, bilinear}
 use Rattle.rules.specs.Lookup.{inside}
 use Rattle.bilinear.specs.Mean.{InCell}
-use Rattle.nodes.specs.Cell.{cellAt, allPass, square}
+use Rattle.nodes.specs.Cell.{cellAt, allPass, valueOf, square}
+use Rattle.nodes.specs.declared.Value.{Value}
+use Rattle.nodes.specs.declared.Value.the-variants as value
 use Rattle.lookup.specs.declared.HeldCell.{HeldCell}
 use Rattle.lookup.specs.declared.Offsets.{Offsets}
 
@@ -67,17 +69,17 @@ pub record Holds (h : HeldCell) (g : Geometry) (p : Point) : Type 0 where
   pub asked : h .passes ≡ allPass (h .corners)
 
 -- The bilinear value of one of a node's values, from the corners of a held cell.
-abbrev pub weighed : (Node → ℤ) → HeldCell → Geometry → Point → ℤ
-weighed value h g p =
-    bilinear (squareOf (square value (h .corners)))
+unfoldable pub valueIn : Value → HeldCell → Geometry → Point → ℤ
+valueIn v h g p =
+    bilinear (squareOf (square (valueOf v) (h .corners)))
     (partsIn h g p .north) (partsIn h g p .east)
     (g .latitude .spacing) (g .longitude .spacing)
 
 unfoldable pub correctionsIn : HeldCell → Geometry → Point → Correction
-correctionsIn h g p = record { latitude = weighed (λ n. n .latitude) h g p; longitude = weighed (λ n. n .longitude) h g p }
+correctionsIn h g p = record { latitude = valueIn value.LatitudeCorrection h g p; longitude = valueIn value.LongitudeCorrection h g p }
 
 unfoldable pub heightIn : HeldCell → Geometry → Point → ℤ
-heightIn h g p = weighed (λ n. n .height) h g p
+heightIn h g p = valueIn value.Height h g p
 
 unfoldable pub valuesIn : HeldCell → Geometry → Point → Node
 valuesIn h g p =

@@ -3,11 +3,10 @@ use bilinear::locate;
 use bilinear::weigh;
 use image::far_bound;
 use nodes::Cell;
+use nodes::Value;
 use nodes::cell_at;
 use nodes::cell_passes;
-use nodes::height_square;
-use nodes::latitude_square;
-use nodes::longitude_square;
+use nodes::square_of;
 use numbers::is_within;
 use rules::Axis;
 use rules::Correction;
@@ -24,7 +23,7 @@ ghost use Rattle.rules.specs.Questions.{AxisPasses, opening};
 ghost use Rattle.rules.specs.Bilinear.{offset};
 ghost use Rattle.rules.specs.Lookup as lookup;
 ghost use Rattle.rules.specs.Ways.{question7};
-ghost use Rattle.lookup.specs.Values.{heldAt, reaches, liesIn, Bounded, offsetsOf, partsIn, Holds, valuesIn, correctionsIn, heightIn};
+ghost use Rattle.lookup.specs.Values.{heldAt, reaches, liesIn, Bounded, offsetsOf, partsIn, Holds, valueIn, valuesIn, correctionsIn, heightIn};
 
 // A cell read from an image: the nodes at its corners, how far its south and west side lie from the bounds there, and
 // the answer to question 9.
@@ -172,22 +171,8 @@ pub fn corrections_in(h: HeldCell, g: Geometry, p: Point) -> Correction
     requires { ⌜ (h .passes ≡ true) × Holds h g p ⌝ }
     ensures { λ r. ⌜ r ≡ correctionsIn h g p ⌝ }
 {
-    let c = h.corners;
-    let at = parts_in(h, g, p);
-    let latitude = weigh(
-        latitude_square(c),
-        at.north,
-        at.east,
-        g.latitude.spacing,
-        g.longitude.spacing,
-    );
-    let longitude = weigh(
-        longitude_square(c),
-        at.north,
-        at.east,
-        g.latitude.spacing,
-        g.longitude.spacing,
-    );
+    let latitude = value_in(h, g, p, Value::LatitudeCorrection);
+    let longitude = value_in(h, g, p, Value::LongitudeCorrection);
     Correction {
         latitude,
         longitude,
@@ -199,10 +184,18 @@ pub fn height_in(h: HeldCell, g: Geometry, p: Point) -> i64
     requires { ⌜ (h .passes ≡ true) × Holds h g p ⌝ }
     ensures { λ r. ⌜ r ≡ heightIn h g p ⌝ }
 {
-    let c = h.corners;
+    value_in(h, g, p, Value::Height)
+}
+
+// One of the three values there.
+fn value_in(h: HeldCell, g: Geometry, p: Point, v: Value) -> i64
+    requires { ⌜ (h .passes ≡ true) × Holds h g p ⌝ }
+    ensures { λ r. ⌜ r ≡ valueIn v h g p ⌝ }
+{
+    let corners = square_of(h.corners, v);
     let at = parts_in(h, g, p);
     weigh(
-        height_square(c),
+        corners,
         at.north,
         at.east,
         g.latitude.spacing,

@@ -8,6 +8,8 @@ use Rattle.rules.specs.declared.Node.{Node}
 use Rattle.rules.specs.Image.{Grid, nodeAt, i32At, columns, backOf}
 use Rattle.rules.specs.Lookup.{nodePasses}
 use Rattle.nodes.specs.declared.Cell.{Cell}
+use Rattle.nodes.specs.declared.Value.{Value}
+use Rattle.nodes.specs.declared.Value.the-variants as value
 
 -- The node of a column, in a row's part.
 unfoldable pub nodeOf : List ℕ → ℕ → Node
@@ -32,6 +34,12 @@ cellAt g row column =
 unfoldable pub allPass : Cell → Bool
 allPass c =
     (nodePasses (c .southwest) && nodePasses (c .southeast)) && (nodePasses (c .northwest) && nodePasses (c .northeast))
+
+-- One of a node's three values, case by case.
+abbrev pub valueOf : Value → Node → ℤ
+valueOf value.LatitudeCorrection n = n .latitude
+valueOf value.LongitudeCorrection n = n .longitude
+valueOf value.Height n = n .height
 
 -- One value at the four corners: two rows of two, the south row first.
 abbrev pub square : (Node → ℤ) → Cell → List (List ℤ)

@@ -10,7 +10,7 @@ ghost use lib.ListN.{length};
 ghost use Rattle.rules.specs.Image.{rows, columns, gridOf, nodeAt};
 ghost use Rattle.rules.specs.Questions.{Open};
 ghost use Rattle.rules.specs.Lookup.{nodePasses};
-ghost use Rattle.nodes.specs.Cell.{nodeOf, rowStart, cellAt, allPass, square};
+ghost use Rattle.nodes.specs.Cell.{nodeOf, rowStart, cellAt, allPass, valueOf, square};
 
 // The nodes at the corners of a cell.
 pub struct Cell {
@@ -18,6 +18,13 @@ pub struct Cell {
     pub southeast: Node,
     pub northwest: Node,
     pub northeast: Node,
+}
+
+// The three values of a node.
+pub enum Value {
+    LatitudeCorrection,
+    LongitudeCorrection,
+    Height,
 }
 
 // The corners of the cell whose south-west node is that of a row and a column.
@@ -110,45 +117,28 @@ pub fn node_passes(n: Node) -> bool
     }
 }
 
-// One value at the four corners, south row first.
-pub fn latitude_square(c: Cell) -> [[i64; 2]; 2]
-    ensures { λ r. ⌜ r ≡ square (λ n. n .latitude) c ⌝ }
+// One of the three values of a node.
+fn value_of(n: Node, v: Value) -> i64
+    ensures { λ r. ⌜ r ≡ valueOf v n ⌝ }
 {
-    let southwest = c.southwest;
-    let southeast = c.southeast;
-    let northwest = c.northwest;
-    let northeast = c.northeast;
-    let sw = southwest.latitude;
-    let se = southeast.latitude;
-    let nw = northwest.latitude;
-    let ne = northeast.latitude;
-    [[sw, se], [nw, ne]]
+    match v {
+        Value::LatitudeCorrection => n.latitude,
+        Value::LongitudeCorrection => n.longitude,
+        Value::Height => n.height,
+    }
 }
 
-pub fn longitude_square(c: Cell) -> [[i64; 2]; 2]
-    ensures { λ r. ⌜ r ≡ square (λ n. n .longitude) c ⌝ }
+// One of the values at the four corners, south row first.
+pub fn square_of(c: Cell, v: Value) -> [[i64; 2]; 2]
+    ensures { λ r. ⌜ r ≡ square (valueOf v) c ⌝ }
 {
     let southwest = c.southwest;
     let southeast = c.southeast;
     let northwest = c.northwest;
     let northeast = c.northeast;
-    let sw = southwest.longitude;
-    let se = southeast.longitude;
-    let nw = northwest.longitude;
-    let ne = northeast.longitude;
-    [[sw, se], [nw, ne]]
-}
-
-pub fn height_square(c: Cell) -> [[i64; 2]; 2]
-    ensures { λ r. ⌜ r ≡ square (λ n. n .height) c ⌝ }
-{
-    let southwest = c.southwest;
-    let southeast = c.southeast;
-    let northwest = c.northwest;
-    let northeast = c.northeast;
-    let sw = southwest.height;
-    let se = southeast.height;
-    let nw = northwest.height;
-    let ne = northeast.height;
+    let sw = value_of(southwest, v);
+    let se = value_of(southeast, v);
+    let nw = value_of(northwest, v);
+    let ne = value_of(northeast, v);
     [[sw, se], [nw, ne]]
 }
