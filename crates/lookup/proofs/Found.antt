@@ -17,7 +17,7 @@ use Rattle.rules.specs.declared.Node.{Node}
 use Rattle.rules.specs.Answers.{values, ask}
 use Rattle.rules.specs.Image.{Grid}
 use Rattle.rules.specs.Questions.{Sized, Open}
-use Rattle.rules.specs.Bilinear.{offset, partOf, squareOf, valueAt}
+use Rattle.rules.specs.Bilinear.{offset, partOf, squareOf, bilinear, valueAt}
 use Rattle.rules.specs.Lookup.{inside, nodePasses, cellPasses, question9, lookup}
 use Rattle.rules.specs.Ways.{sourceOf}
 use Rattle.rules.proofs.Cells.{offset-most, part-most, cell-start, cell-most, cell-is, on-latitude, on-longitude}
@@ -120,6 +120,12 @@ value-small value.Height n w = omega (arith, w .height)
 pub weighable : (v : Value) {h : HeldCell} {g : Geometry} {p : Point} {l : List (List ℤ)} {o : Offsets} → h .passes ≡ true → Holds h g p → l ≡ square (valueOf v) (h .corners) → o ≡ partsIn h g p
     → CornersWithin 10000000 (squareOf l) × InCell (o .north) (o .east) (g .latitude .spacing) (g .longitude .spacing)
 weighable v {h} t k s o = (rw s (corners-within (valueOf v) (value-small v) (h .corners) (sym (k .asked) ∙ t)), rw o (k .parts))
+
+-- What `weigh` ensures of them is the value there.
+pub weighed-is : (v : Value) (h : HeldCell) (g : Geometry) (p : Point) {l : List (List ℤ)} {o : Offsets} {z : ℤ} → z ≡ bilinear (squareOf l) (o .north) (o .east) (g .latitude .spacing) (g .longitude .spacing)
+    → l ≡ square (valueOf v) (h .corners) → o ≡ partsIn h g p → z ≡ valueIn v h g p
+unfolding valueIn
+weighed-is v h g p w s o = w ∙ (λ i. bilinear (squareOf (s i)) (o i .north) (o i .east) (g .latitude .spacing) (g .longitude .spacing))
 
 -- The values in a held cell that passes question 9 are within its limits.
 pub values-within : {h : HeldCell} {g : Geometry} {p : Point} → h .passes ≡ true → Holds h g p → NodeWithin (valuesIn h g p)

@@ -23,7 +23,7 @@ ghost use Rattle.rules.specs.Questions.{AxisPasses, opening};
 ghost use Rattle.rules.specs.Bilinear.{offset};
 ghost use Rattle.rules.specs.Lookup as lookup;
 ghost use Rattle.rules.specs.Ways.{question7};
-ghost use Rattle.lookup.specs.Values.{heldAt, reaches, liesIn, Bounded, offsetsOf, partsIn, Holds, valueIn, valuesIn, correctionsIn, heightIn};
+ghost use Rattle.lookup.specs.Values.{heldAt, reaches, liesIn, Bounded, offsetsOf, partsIn, Holds, valuesIn, correctionsIn, heightIn};
 
 // A cell read from an image: the nodes at its corners, how far its south and west side lie from the bounds there, and
 // the answer to question 9.
@@ -171,8 +171,23 @@ pub fn corrections_in(h: HeldCell, g: Geometry, p: Point) -> Correction
     requires { ⌜ (h .passes ≡ true) × Holds h g p ⌝ }
     ensures { λ r. ⌜ r ≡ correctionsIn h g p ⌝ }
 {
-    let latitude = value_in(h, g, p, Value::LatitudeCorrection);
-    let longitude = value_in(h, g, p, Value::LongitudeCorrection);
+    let at = parts_in(h, g, p);
+    let north = square_of(h.corners, Value::LatitudeCorrection);
+    let east = square_of(h.corners, Value::LongitudeCorrection);
+    let latitude = weigh(
+        north,
+        at.north,
+        at.east,
+        g.latitude.spacing,
+        g.longitude.spacing,
+    );
+    let longitude = weigh(
+        east,
+        at.north,
+        at.east,
+        g.latitude.spacing,
+        g.longitude.spacing,
+    );
     Correction {
         latitude,
         longitude,
@@ -184,18 +199,10 @@ pub fn height_in(h: HeldCell, g: Geometry, p: Point) -> i64
     requires { ⌜ (h .passes ≡ true) × Holds h g p ⌝ }
     ensures { λ r. ⌜ r ≡ heightIn h g p ⌝ }
 {
-    value_in(h, g, p, Value::Height)
-}
-
-// One of the three values there.
-fn value_in(h: HeldCell, g: Geometry, p: Point, v: Value) -> i64
-    requires { ⌜ (h .passes ≡ true) × Holds h g p ⌝ }
-    ensures { λ r. ⌜ r ≡ valueIn v h g p ⌝ }
-{
-    let corners = square_of(h.corners, v);
     let at = parts_in(h, g, p);
+    let up = square_of(h.corners, Value::Height);
     weigh(
-        corners,
+        up,
         at.north,
         at.east,
         g.latitude.spacing,
