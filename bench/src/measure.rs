@@ -18,13 +18,15 @@ pub fn median_seconds(works: &mut [Work]) -> Vec<f64> {
     let mut measured = vec![Vec::with_capacity(REPEATS); works.len()];
     for _ in 0..REPEATS {
         for (index, work) in works.iter_mut().enumerate() {
+            // Once unmeasured: the work before it has left the caches to itself.
+            work();
             measured[index].push(seconds(work, times[index]) / f64::from(times[index]));
         }
     }
     measured.into_iter().map(median).collect()
 }
 
-/// How often the work is done in one measurement. The work runs first once unmeasured.
+/// How often the work is done in one measurement. It is first done once unmeasured.
 fn times_in_span(work: &mut Work) -> u32 {
     work();
     let mut times = 1;

@@ -6,28 +6,28 @@ use lib.Signed.{_≤ℤ_}
 use Rattle.integers.specs.Difference.{up, down, order, var, lit, minus, _⊕_}
 use Rattle.integers.specs.Distance.{abs-is}
 use Rattle.rules.specs.Bilinear.{Square, bilinear}
-use Rattle.bilinear.specs.Mean.{CornersWithin}
+use Rattle.bilinear.specs.Mean.{CornersWithin, mean}
 use Rattle.bilinear.proofs.Rounding.{mean-le, mean-ge}
 use Rattle.bilinear.proofs.Raising.{Raised, raised-value}
 
 -- ---- between the corners
 module _ (c : Square) {u v P Q : ℕ} (h : u ≤ P) (k : v ≤ Q) (pq : 0 < P * Q) where
   module _ (z : ℤ) where
-    -- by so much, z and all corners are raised above zero
+    -- z and all corners lie so far above −b
     b : ℕ
     b = down z + down (c .southwest) + down (c .southeast) + down (c .northwest) + down (c .northeast)
 
     over : ℤ → ℕ
     over x = up x + (b - down x)
 
-    raised : Raised b c (over (c .southwest)) (over (c .southeast)) (over (c .northwest)) (over (c .northeast))
+    raised : Raised (negℤ (pos b)) c (over (c .southwest)) (over (c .southeast)) (over (c .northwest)) (over (c .northeast))
     unfolding b over
     raised =
         record {
-          southwest-is = omega (arith, order, var (c .southwest) ⊕ lit b);
-          southeast-is = omega (arith, order, var (c .southeast) ⊕ lit b);
-          northwest-is = omega (arith, order, var (c .northwest) ⊕ lit b);
-          northeast-is = omega (arith, order, var (c .northeast) ⊕ lit b);
+          southwest-is = omega (arith, order, minus (lit b) ⊕ lit (over (c .southwest)));
+          southeast-is = omega (arith, order, minus (lit b) ⊕ lit (over (c .southeast)));
+          northwest-is = omega (arith, order, minus (lit b) ⊕ lit (over (c .northwest)));
+          northeast-is = omega (arith, order, minus (lit b) ⊕ lit (over (c .northeast)));
         }
 
     -- Where no corner is below z, the value is not; where none is above z, the value is not.
@@ -37,7 +37,7 @@ module _ (c : Square) {u v P Q : ℕ} (h : u ≤ P) (k : v ≤ Q) (pq : 0 < P * 
         let m =
         mean-ge h k pq {sw = over (c .southwest)} {se = over (c .southeast)} {nw = over (c .northwest)} {ne = over (c .northeast)} (over z)
         (omega (arith, order)) (omega (arith, order)) (omega (arith, order)) (omega (arith, order)) in
-        omega (arith, order, raised-value h k pq raised, var (bilinear c u v P Q) ⊕ lit b)
+        omega (arith, order, raised-value h k pq raised, minus (lit b) ⊕ lit (mean (over (c .southwest)) (over (c .southeast)) (over (c .northwest)) (over (c .northeast)) u v P Q))
 
     pub value-le : c .southwest ≤ℤ z → c .southeast ≤ℤ z → c .northwest ≤ℤ z → c .northeast ≤ℤ z → bilinear c u v P Q ≤ℤ z
     unfolding b over
@@ -45,7 +45,7 @@ module _ (c : Square) {u v P Q : ℕ} (h : u ≤ P) (k : v ≤ Q) (pq : 0 < P * 
         let m =
         mean-le h k pq {sw = over (c .southwest)} {se = over (c .southeast)} {nw = over (c .northwest)} {ne = over (c .northeast)} (over z)
         (omega (arith, order)) (omega (arith, order)) (omega (arith, order)) (omega (arith, order)) in
-        omega (arith, order, raised-value h k pq raised, var (bilinear c u v P Q) ⊕ lit b)
+        omega (arith, order, raised-value h k pq raised, minus (lit b) ⊕ lit (mean (over (c .southwest)) (over (c .southeast)) (over (c .northwest)) (over (c .northeast)) u v P Q))
 
   bounds : (M : ℕ) (z : ℤ) → natAbs z ≤ M → (negℤ (pos M) ≤ℤ z) × (z ≤ℤ pos M)
   bounds M z w = (omega (arith, order, abs-is (var z), minus (lit M)), omega (arith, order, abs-is (var z)))

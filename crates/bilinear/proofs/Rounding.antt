@@ -1,4 +1,4 @@
--- The laws over ℕ behind the code: a mix lies between its values and is raised with them, and the division by P × Q done in two steps loses nothing.
+-- The laws over ℕ behind the code: a mix lies between its values, and the division by P × Q done in two steps loses nothing.
 use mathlib.Core.Path.{_≡_, sym, ap, _∙_}
 use Prim.Native.Nat.{ℕ, suc, _+_, _-_, _*_, _/_, _%_, _≤_, _<_, max}
 use native.Mathlib.Nat.{div-add-mod', mod-lt, div-le-self, div-le-of-le-mul, div-lt-iff-lt-mul, le-div-iff-mul-le, mul-add-div-right, mul-div-le, lt-mul-div-succ, mul-pos, mul-le-mul, mul-le-mul-left, mul-le-mul-right, sub-add-cancel, le-of-lt, le-of-suc-le-suc, le-max-left, le-max-right, max-le}
@@ -13,10 +13,6 @@ mix-le {a} {b} {w} {whole} M h p q =
 pub mix-ge : {a b w whole : ℕ} (M : ℕ) → w ≤ whole → M ≤ a → M ≤ b → whole * M ≤ mix a b w whole
 mix-ge {a} {b} {w} {whole} M h p q =
     omega (arith, mul-le-mul-left (whole - w) p, mul-le-mul-left w q, ap (λ (x : ℕ). x * M) (sub-add-cancel h))
-
--- raised with its values
-mix-raised : {w whole : ℕ} (a b m : ℕ) → w ≤ whole → mix (a + m) (b + m) w whole ≡ mix a b w whole + whole * m
-mix-raised {w} {whole} a b m h = omega (arith, ap (λ (x : ℕ). x * m) (sub-add-cancel h))
 
 -- Numbers up to 100,000,000 can be mixed.
 pub mixable : {a b w whole : ℕ} → w ≤ whole → whole ≤ 100000000 → a ≤ 100000000 → b ≤ 100000000 → Mixable a b w whole
@@ -35,7 +31,7 @@ area-most h k = mul-le-mul (h .most) (k .most)
 pub cell-area : {u v p q : ℕ} → InCell u v p q → 0 < p * q
 cell-area cell = area-least (cell .height) (cell .width)
 
--- the rounded mean lies between the corner values, and is raised with them
+-- the rounded mean lies between the corner values
 module _ {u v P Q : ℕ} (h : u ≤ P) (k : v ≤ Q) (pq : 0 < P * Q) where
   pub mean-le : {sw se nw ne : ℕ} (M : ℕ) → sw ≤ M → se ≤ M → nw ≤ M → ne ≤ M → mean sw se nw ne u v P Q ≤ M
   unfolding quotient
@@ -48,20 +44,6 @@ module _ {u v P Q : ℕ} (h : u ≤ P) (k : v ≤ Q) (pq : 0 < P * Q) where
   mean-ge {sw} {se} {nw} {ne} M a b c d =
       let above : P * (Q * M) ≤ mix (mix sw se v Q) (mix nw ne v Q) u P = mix-ge (Q * M) h (mix-ge M k a b) (mix-ge M k c d) in
       le-div-iff-mul-le {k = 2 * (P * Q)} (omega arith) .1 (omega arith)
-
-  mean-raised : (sw se nw ne m : ℕ) → mean (sw + m) (se + m) (nw + m) (ne + m) u v P Q ≡ m + mean sw se nw ne u v P Q
-  unfolding quotient
-  mean-raised sw se nw ne m =
-      let inner = mix-raised (mix sw se v Q) (mix nw ne v Q) (Q * m) h in
-      rw (mix-raised sw se m k, mix-raised nw ne m k, inner)
-      (ap (λ (x : ℕ). x / (2 * (P * Q))) {y = m * (2 * (P * Q)) + (2 * mix (mix sw se v Q) (mix nw ne v Q) u P + P * Q)} (omega arith)
-      ∙ mul-add-div-right (omega arith) m _)
-
-  -- Values lowered by m have a mean that is lower by m.
-  pub mean-lowered : {sw se nw ne : ℕ} (m : ℕ) → m ≤ sw → m ≤ se → m ≤ nw → m ≤ ne
-      → m + mean (sw - m) (se - m) (nw - m) (ne - m) u v P Q ≡ mean sw se nw ne u v P Q
-  mean-lowered {sw} {se} {nw} {ne} m a b c d =
-      rw (← mean-raised (sw - m) (se - m) (nw - m) (ne - m) m, sub-add-cancel a, sub-add-cancel b, sub-add-cancel c, sub-add-cancel d)
 
 -- what the numbers are at most in the division of two rows: t is the mix of the rows divided by q, and left that of what q leaves of them
 pub record Small (p q t left : ℕ) : Type 0 where

@@ -1,6 +1,8 @@
 -- What the weighting function asks of its numbers, and the weighted mean over natural numbers that its steps compute.
 use Prim.Native.Nat.{ℕ, _+_, _-_, _*_, _/_, _≤_, max}
-use lib.IntN.{natAbs}
+use mathlib.Core.Bool.{cond}
+use lib.IntN.{ℤ, natAbs}
+use lib.Signed.{leZ}
 use Rattle.rules.specs.Bilinear.{Square}
 
 -- Corner values within `limit` of zero.
@@ -21,6 +23,14 @@ pub record InCell (u v P Q : ℕ) : Type 0 where
   pub east : v ≤ Q
   pub height : Spacing P
   pub width : Spacing Q
+
+-- The lesser of two values.
+abbrev pub minimum : ℤ → ℤ → ℤ
+minimum a b = cond (leZ a b) a b
+
+-- The least corner.
+abbrev pub leastOf : Square → ℤ
+leastOf c = minimum (minimum (c .southwest) (c .southeast)) (minimum (c .northwest) (c .northeast))
 
 -- a and b weighted by the parts whole − w and w.
 abbrev pub mix : ℕ → ℕ → ℕ → ℕ → ℕ

@@ -3,9 +3,10 @@ use rules::Axis;
 ghost use mathlib.Core.Path.{_≡_};
 ghost use Prim.Native.Nat.{_+_, _*_, _/_, _≤_, _<_, min, max};
 ghost use lib.IntN.{pos, natAbs, _+ℤ_};
+ghost use lib.Signed.{_≤ℤ_};
 ghost use Rattle.rules.specs.Questions.{Sized};
 ghost use Rattle.rules.specs.Bilinear.{cellOf, partOf, squareOf, bilinear};
-ghost use Rattle.bilinear.specs.Mean.{CornersWithin, InCell, mix, quotient, mean, Mixable, Spacing, Rows, Below};
+ghost use Rattle.bilinear.specs.Mean.{CornersWithin, InCell, minimum, leastOf, mix, quotient, mean, Mixable, Spacing, Rows, Below};
 
 // A cell's index along one axis, and a point's part of the cell.
 pub struct Place {
@@ -36,47 +37,55 @@ fn larger(a: u64, b: u64) -> u64
 }
 
 // The bilinear value of four corner values, south row first, at u from the south side and v from the west side of a cell of p by q.
-// The corners are raised so that none is negative, which the mean undergoes too.
+// The least corner is taken from each, which leaves natural numbers, most often small, and added again to their mean.
 pub fn weigh(corners: [[i64; 2]; 2], u: u64, v: u64, p: u64, q: u64) -> i64
     requires { ⌜ CornersWithin 10000000 (squareOf corners) × InCell u v p q ⌝ }
     ensures { λ r. ⌜ r ≡ bilinear (squareOf corners) u v p q ⌝ }
 {
-    let sw = raised(corners[0][0]);
-    let se = raised(corners[0][1]);
-    let nw = raised(corners[1][0]);
-    let ne = raised(corners[1][1]);
-    lowered(rounded_mean(sw, se, nw, ne, u, v, p, q))
+    let least = least_of(corners);
+    let sw = above(least, corners[0][0]);
+    let se = above(least, corners[0][1]);
+    let nw = above(least, corners[1][0]);
+    let ne = above(least, corners[1][1]);
+    raised(least, rounded_mean(sw, se, nw, ne, u, v, p, q))
 }
 
-// x raised by 10,000,000, which makes it a natural number.
-fn raised(x: i64) -> u64
-    requires { ⌜ natAbs x ≤ 10000000 ⌝ }
-    ensures { λ r. ⌜ (pos r ≡ x +ℤ pos 10000000) × (r ≤ 20000000) ⌝ }
+// The least corner.
+fn least_of(corners: [[i64; 2]; 2]) -> i64
+    requires { ⌜ CornersWithin 10000000 (squareOf corners) ⌝ }
+    ensures { λ r. ⌜ r ≡ leastOf (squareOf corners) ⌝ }
 {
-    (x + 10_000_000) as u64
+    let south = lesser(corners[0][0], corners[0][1]);
+    let north = lesser(corners[1][0], corners[1][1]);
+    lesser(south, north)
 }
 
-// And lowered again.
-fn lowered(n: u64) -> i64
-    requires { ⌜ n ≤ 20000000 ⌝ }
-    ensures { λ r. ⌜ pos n ≡ r +ℤ pos 10000000 ⌝ }
+// The lesser of two values.
+fn lesser(a: i64, b: i64) -> i64
+    ensures { λ r. ⌜ r ≡ minimum a b ⌝ }
 {
-    n as i64 - 10_000_000
+    if a <= b { a } else { b }
 }
 
-// The weighted mean of four natural corner values, rounded. The least of them is taken from each and added again to the mean of what is left,
-// which makes the mixes smaller.
+// How far x lies above the least value.
+fn above(least: i64, x: i64) -> u64
+    requires { ⌜ (natAbs least ≤ 10000000) × (natAbs x ≤ 10000000) × (least ≤ℤ x) ⌝ }
+    ensures { λ r. ⌜ x ≡ least +ℤ pos r ⌝ }
+{
+    (x - least) as u64
+}
+
+// The value so far above the least one.
+fn raised(least: i64, n: u64) -> i64
+    requires { ⌜ (natAbs least ≤ 10000000) × (n ≤ 20000000) ⌝ }
+    ensures { λ r. ⌜ r ≡ least +ℤ pos n ⌝ }
+{
+    least + n as i64
+}
+
+// The weighted mean of four natural corner values, rounded: the two rows are mixed, then the mixes divided. Where the test holds, p times the
+// larger mix is at most 1.844 * 10^19, so the mix of both fits 64 bits with half of p * q, and one division is enough.
 fn rounded_mean(sw: u64, se: u64, nw: u64, ne: u64, u: u64, v: u64, p: u64, q: u64) -> u64
-    requires { ⌜ Below 20000000 sw se nw ne × InCell u v p q ⌝ }
-    ensures { λ r. ⌜ r ≡ mean sw se nw ne u v p q ⌝ }
-{
-    let least = smaller(smaller(sw, se), smaller(nw, ne));
-    least + mean_of_rows(sw - least, se - least, nw - least, ne - least, u, v, p, q)
-}
-
-// The same mean by rows: the two rows are mixed, then the mixes divided. Where the test holds, p times the larger mix is at most 1.844 * 10^19,
-// so the mix of both fits 64 bits with half of p * q, and one division is enough.
-fn mean_of_rows(sw: u64, se: u64, nw: u64, ne: u64, u: u64, v: u64, p: u64, q: u64) -> u64
     requires { ⌜ Below 20000000 sw se nw ne × InCell u v p q ⌝ }
     ensures { λ r. ⌜ r ≡ mean sw se nw ne u v p q ⌝ }
 {

@@ -1,27 +1,18 @@
 -- `bilinear::raised` meets its contract. Assumes nothing.
-use lib.IntN.{_+ℤ_, pos}
+use native.Mathlib.Omega.{arith}
 use mir.Syntax.{w64}
-use mir.Val.{toZ, ofZ}
-use Rattle.integers.specs.Difference.{Difference, var, lit, _⊕_}
-use Rattle.integers.specs.Machine.{zarith, read, back}
+use Rattle.integers.specs.Difference.{var, lit, _⊕_}
 use Rattle.integers.specs.Distance.{abs-is}
+use Rattle.integers.specs.Machine.{zarith, read, small, back}
+use borrow.Author.Needs.{needs}
 use Rattle.bilinear.proofs.raised.Statement.{statement}
 use Rattle.bilinear.proofs.raised.Tie as tie
 
 add-result : tie.Need-add-result
-add-result c = omega (zarith, read (c .fits .x) ⊕ lit 10000000, abs-is (var (c .args .x)))
-
--- the sum as the machine reads it back
-sum : (c : tie.Start) → Difference (toZ w64 (ofZ w64 (toZ w64 (ofZ w64 (c .args .x)) +ℤ pos 10000000)))
-sum c = back (add-result c) (read (c .fits .x) ⊕ lit 10000000)
-
-cast-result : tie.Need-cast-result
-unfolding sum
-cast-result c = omega (zarith, sum c, abs-is (sum c), abs-is (var (c .args .x)))
+add-result c = omega (zarith, read (c .fits .least) ⊕ small w64 (c .args .n) (omega arith), abs-is (var (c .args .least)))
 
 returns : tie.Need-returns
-unfolding sum
-returns c = omega (zarith, abs-is (sum c), abs-is (var (c .args .x)), var (c .args .x) ⊕ lit 10000000)
+returns c = omega (zarith, back (add-result c) (read (c .fits .least) ⊕ small w64 (c .args .n) (omega arith)), var (c .args .least) ⊕ lit (c .args .n))
 
 pub raised-spec : {M : Type 1} → statement M
-raised-spec = tie.close (tie.spec add-result cast-result returns)
+raised-spec = tie.close (tie.spec (λ c. search needs) add-result returns)
