@@ -157,16 +157,39 @@ fn values_in(h: HeldCell, g: Geometry, p: Point) -> Node
     requires { ⌜ (h .passes ≡ true) × Holds h g p ⌝ }
     ensures { λ r. ⌜ r ≡ valuesIn h g p ⌝ }
 {
-    let shift = corrections_in(h, g, p);
-    let height = height_in(h, g, p);
+    let at = parts_in(h, g, p);
+    let north = square_of(h.corners, Value::LatitudeCorrection);
+    let east = square_of(h.corners, Value::LongitudeCorrection);
+    let up = square_of(h.corners, Value::Height);
+    let latitude = weigh(
+        north,
+        at.north,
+        at.east,
+        g.latitude.spacing,
+        g.longitude.spacing,
+    );
+    let longitude = weigh(
+        east,
+        at.north,
+        at.east,
+        g.latitude.spacing,
+        g.longitude.spacing,
+    );
+    let height = weigh(
+        up,
+        at.north,
+        at.east,
+        g.latitude.spacing,
+        g.longitude.spacing,
+    );
     Node {
-        latitude: shift.latitude,
-        longitude: shift.longitude,
+        latitude,
+        longitude,
         height,
     }
 }
 
-// The two corrections there.
+// The two corrections alone.
 pub fn corrections_in(h: HeldCell, g: Geometry, p: Point) -> Correction
     requires { ⌜ (h .passes ≡ true) × Holds h g p ⌝ }
     ensures { λ r. ⌜ r ≡ correctionsIn h g p ⌝ }
@@ -194,7 +217,7 @@ pub fn corrections_in(h: HeldCell, g: Geometry, p: Point) -> Correction
     }
 }
 
-// The quasi-geoid height there.
+// The quasi-geoid height alone.
 pub fn height_in(h: HeldCell, g: Geometry, p: Point) -> i64
     requires { ⌜ (h .passes ≡ true) × Holds h g p ⌝ }
     ensures { λ r. ⌜ r ≡ heightIn h g p ⌝ }
