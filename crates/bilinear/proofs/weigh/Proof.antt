@@ -1,6 +1,7 @@
 -- `bilinear::weigh` meets its contract: the value lies above the least corner by the mean of what lies above it at the corners. Assumes nothing.
 use mathlib.Core.Path.{_≡_, sym, ap, _∙_}
 use Prim.Native.Nat.{_≤_}
+use native.Mathlib.Omega.{arith}
 use lib.IntN.{ℤ, pos, natAbs, _+ℤ_}
 use lib.Signed.{_≤ℤ_}
 use mir.Syntax.{w64}
@@ -68,8 +69,9 @@ raised-requires : tie.Need-raised-requires
 raised-requires c κs =
     let l = c .before .before .before .before .before .before .before .before .before in
     let b = below (c .before) in
-    let cell = l .before .pre .1 in (
-      rw (least l) (under (l .before .pre .0) .near),
+    let cell = l .before .pre .1 in
+    let near : natAbs (toZ w64 (ofZ w64 (l .least-of .result))) ≤ 10000000 = rw (least l) (under (l .before .pre .0) .near) in (
+      omega (arith, near),
       rw (c .rounded-mean .ensures) (mean-le (cell .north) (cell .east) (cell-area cell) 20000000 (b .southwest) (b .southeast) (b .northwest) (b .northeast)),
     )
 
