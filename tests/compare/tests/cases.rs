@@ -94,6 +94,53 @@ fn the_way_out_meets_an_unfit_cell_and_a_bound_at_every_step() {
 }
 
 #[test]
+fn the_way_out_stays_in_its_cell_and_leaves_it() {
+    let mut stays = BTreeSet::new();
+    for_each_point(Way::Out, |image, given| {
+        if !image.contains(given) {
+            return;
+        }
+        let cell = |point| {
+            let (row, column) = image.places(point);
+            (row.cell, column.cell)
+        };
+        let Ok([latitude, longitude, _]) = lookup(image, given) else {
+            return;
+        };
+        let first = Point {
+            latitude: given.latitude - latitude,
+            longitude: given.longitude - longitude,
+        };
+        if image.contains(first) {
+            stays.insert(cell(first) == cell(given));
+        }
+    });
+    assert_eq!(stays.len(), 2, "{stays:?}");
+}
+
+/// The largest difference between the corners of a point's cell, times the cell's area, decides
+/// how the library weighs: within 64 bits with one division, past them with three.
+#[test]
+fn corners_lie_near_each_other_and_far_apart_for_each_value() {
+    let mut met = BTreeSet::new();
+    for_each_point(Way::Back, |image, point| {
+        if !image.contains(point) || lookup(image, point).is_err() {
+            return;
+        }
+        let (row, column) = image.places(point);
+        let corners = [(0, 0), (0, 1), (1, 0), (1, 1)]
+            .map(|(north, east)| image.node(row.cell + north, column.cell + east));
+        let area = image.latitude_spacing * image.longitude_spacing;
+        for value in 0..3 {
+            let values = corners.map(|node| i128::from(node[value]));
+            let apart = values.iter().max().unwrap() - values.iter().min().unwrap();
+            met.insert((value, apart * area > u64::MAX.into()));
+        }
+    });
+    assert_eq!(met.len(), 6, "{met:?}");
+}
+
+#[test]
 fn points_lie_on_and_beside_every_bound_and_corner() {
     let mut places = BTreeSet::new();
     let place = |angle: i128, low: i128, high: i128| match angle {
