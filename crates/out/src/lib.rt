@@ -153,6 +153,7 @@ fn answer_in(h: HeldCell, g: Geometry, q: Point, height: i64, count: u64) -> Ans
     Answer::Values(lowered(q, height, height_in(h, g, q), count))
 }
 
+// The point q with its height lowered by z, and the count.
 fn lowered(q: Point, height: i64, z: i64, count: u64) -> Position
     requires { ⌜ (natAbs height ≤ 100000000) × (natAbs z ≤ 1000000) ⌝ }
     ensures { λ r. ⌜ r ≡ ways.position q (height -ℤ z) count ⌝ }
