@@ -1,4 +1,5 @@
 -- `fixes::lengths_pass` meets its contract: two tests, as question 14 has them. Assumes nothing.
+use mathlib.Core.Path.{refl}
 use borrow.Author.Needs.{needs}
 use borrow.Author.Tests.{eq-eqb, ne-eqb}
 use Rattle.rules.specs.Lists.{question14}
@@ -7,7 +8,7 @@ use Rattle.fixes.proofs.lengths_pass.Tie as tie
 
 returns : tie.Need-returns
 unfolding question14
-returns c = rw (eq-eqb _ _ (c .if1 .taken))
+returns c = rw (eq-eqb _ _ (c .if1 .taken)) refl
 
 returns-2 : tie.Need-returns-2
 unfolding question14

@@ -1,4 +1,5 @@
 -- `image::bytes_pass` meets its contract: after question 3 the product is small. Assumes nothing.
+use mathlib.Core.Path.{refl}
 use native.Mathlib.Omega.{arith}
 use borrow.Author.Tests.{eq-eqb, ne-eqb}
 use Rattle.rules.specs.Questions.{question6}
@@ -17,7 +18,7 @@ add-if1 c = omega (arith, nodes-most (c .before .before .args .t .geometry) (c .
 
 returns : tie.Need-returns
 unfolding question6
-returns c = rw (eq-eqb _ _ (c .before .if1 .taken))
+returns c = rw (eq-eqb _ _ (c .before .if1 .taken)) refl
 
 returns-2 : tie.Need-returns-2
 unfolding question6

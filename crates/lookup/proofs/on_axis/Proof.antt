@@ -1,4 +1,5 @@
 -- `lookup::on_axis` meets its contract: both tests are on the numbers themselves, read back from their bits. Assumes nothing.
+use mathlib.Core.Path.{refl}
 use mir.Syntax.{w64}
 use borrow.Author.Needs.{sfits-of}
 use Rattle.integers.specs.Machine.{kept, plain-le}
@@ -16,7 +17,7 @@ returns c = let t = c .before .before in
       kept w64 (c .far-bound .result) (c .far-bound .ok),
       c .far-bound .ensures,
       plain-le {x = s .args .a .start} (sfits-of (t .struct-told .given .0 .1)) (s .fits .z) (c .before .if1 .taken),
-    )
+    ) refl
 
 returns-2 : tie.Need-returns-2
 unfolding onAxis
