@@ -1,5 +1,5 @@
 -- `marker::marker_write_notation` meets its contract: from what `write_notation` ensures. Assumes nothing.
-use mathlib.Core.Path.{_≡_, sym, ap, _∙_}
+use mathlib.Core.Path.{_≡_, refl, sym, ap, _∙_}
 use mir.Syntax.{w64}
 use Rattle.integers.specs.Machine.{kept}
 use Rattle.rules.specs.Answers.{values, number, numberOf, writingOf}
@@ -20,7 +20,7 @@ refused c =
     sym (rw (kept w64 (s .args .nd) (s .fits .nd .sfits)) at (c .before .before .write-notation .ensures)) ∙ ap writingOf (c .r .given .1)
 
 returns : tie.Need-returns
-returns c = let e = written (c .before .before .before) in (rw e, rw e)
+returns c = let e = written (c .before .before .before) in (rw e, rw e refl)
 
 returns-2 : tie.Need-returns-2
 returns-2 c = let e = refused (c .before .before) in

@@ -1,6 +1,6 @@
 -- `slopes::check_nodes` meets its contract: the walk's answer decides question 9, and after it the steps are small enough to put question 12. Assumes nothing.
 use mathlib.Core.Bool.{true, false}
-use mathlib.Core.Path.{_≡_, sym, _∙_}
+use mathlib.Core.Path.{_≡_, refl, sym, _∙_}
 use denote.Ref.{now}
 use borrow.Author.Needs.{needs}
 use Rattle.rules.specs.Image.{gridOf}
@@ -26,7 +26,7 @@ all-gentle-requires c κs =
 
 returns : tie.Need-returns
 unfolding check
-returns c = rw (refused c)
+returns c = rw (refused c) refl
 
 returns-2 : tie.Need-returns-2
 unfolding check
