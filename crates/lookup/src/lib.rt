@@ -157,31 +157,15 @@ fn values_in(h: HeldCell, g: Geometry, p: Point) -> Node
     requires { ⌜ (h .passes ≡ true) × Holds h g p ⌝ }
     ensures { λ r. ⌜ r ≡ valuesIn h g p ⌝ }
 {
+    let north_step = g.latitude.spacing;
+    let east_step = g.longitude.spacing;
     let at = parts_in(h, g, p);
     let north = square_of(h.corners, Value::LatitudeCorrection);
     let east = square_of(h.corners, Value::LongitudeCorrection);
     let up = square_of(h.corners, Value::Height);
-    let latitude = weigh(
-        north,
-        at.north,
-        at.east,
-        g.latitude.spacing,
-        g.longitude.spacing,
-    );
-    let longitude = weigh(
-        east,
-        at.north,
-        at.east,
-        g.latitude.spacing,
-        g.longitude.spacing,
-    );
-    let height = weigh(
-        up,
-        at.north,
-        at.east,
-        g.latitude.spacing,
-        g.longitude.spacing,
-    );
+    let latitude = weigh(north, at.north, at.east, north_step, east_step);
+    let longitude = weigh(east, at.north, at.east, north_step, east_step);
+    let height = weigh(up, at.north, at.east, north_step, east_step);
     Node {
         latitude,
         longitude,
@@ -194,23 +178,13 @@ pub fn corrections_in(h: HeldCell, g: Geometry, p: Point) -> Correction
     requires { ⌜ (h .passes ≡ true) × Holds h g p ⌝ }
     ensures { λ r. ⌜ r ≡ correctionsIn h g p ⌝ }
 {
+    let north_step = g.latitude.spacing;
+    let east_step = g.longitude.spacing;
     let at = parts_in(h, g, p);
     let north = square_of(h.corners, Value::LatitudeCorrection);
     let east = square_of(h.corners, Value::LongitudeCorrection);
-    let latitude = weigh(
-        north,
-        at.north,
-        at.east,
-        g.latitude.spacing,
-        g.longitude.spacing,
-    );
-    let longitude = weigh(
-        east,
-        at.north,
-        at.east,
-        g.latitude.spacing,
-        g.longitude.spacing,
-    );
+    let latitude = weigh(north, at.north, at.east, north_step, east_step);
+    let longitude = weigh(east, at.north, at.east, north_step, east_step);
     Correction {
         latitude,
         longitude,
@@ -222,15 +196,11 @@ pub fn height_in(h: HeldCell, g: Geometry, p: Point) -> i64
     requires { ⌜ (h .passes ≡ true) × Holds h g p ⌝ }
     ensures { λ r. ⌜ r ≡ heightIn h g p ⌝ }
 {
+    let north_step = g.latitude.spacing;
+    let east_step = g.longitude.spacing;
     let at = parts_in(h, g, p);
     let up = square_of(h.corners, Value::Height);
-    weigh(
-        up,
-        at.north,
-        at.east,
-        g.latitude.spacing,
-        g.longitude.spacing,
-    )
+    weigh(up, at.north, at.east, north_step, east_step)
 }
 
 // How far a point lies from the south and the west side of a held cell.
