@@ -128,7 +128,7 @@ impl Panel {
             let (x, y) = (x(index), TOP + PLOT_HEIGHT + 16.0);
             let _ = writeln!(
                 text,
-                "<text x=\"{x}\" y=\"{y}\" text-anchor=\"middle\">{name}</text>"
+                "<text x=\"{x}\" y=\"{y}\" text-anchor=\"middle\" font-size=\"9\">{name}</text>"
             );
         }
         for (index, line) in self.lines.iter().enumerate() {
