@@ -1,28 +1,7 @@
 //! The built library libmarker.a, through its C interface.
 
 use crate::Way;
-
-/// Declares the list calls, which are alike but for their names.
-macro_rules! list_calls {
-    ($($name:ident),*) => {
-        extern "C" {
-            $(fn $name(
-                image: *const u8,
-                image_length: usize,
-                fixes: *const i64,
-                fixes_length: usize,
-                answers: *mut i64,
-                answers_length: usize,
-            ) -> i64;)*
-        }
-    };
-}
-
-list_calls!(marker_list_out, marker_list_back);
-
-extern "C" {
-    fn marker_grid_check(image: *const u8, image_length: usize, findings: *mut i64) -> i64;
-}
+use binding::{marker_grid_check, marker_list_back, marker_list_out};
 
 // Safety of the calls: each pointer comes from a slice that lives through the call, with that
 // slice's own length, and only what was lent as changeable is written.

@@ -1,38 +1,11 @@
 //! The built library libmarker.a as a converter, through its C interface.
 
 use crate::{Converter, Way};
+use binding::{
+    marker_grid_check, marker_list_back, marker_list_out, marker_read_notation,
+    marker_write_notation,
+};
 use reference::{Axis, Notation, Number};
-
-/// Declares the list calls, which are alike but for their names.
-macro_rules! list_calls {
-    ($($name:ident),*) => {
-        extern "C" {
-            $(fn $name(
-                image: *const u8,
-                image_length: usize,
-                fixes: *const i64,
-                fixes_length: usize,
-                answers: *mut i64,
-                answers_length: usize,
-            ) -> i64;)*
-        }
-    };
-}
-
-list_calls!(marker_list_out, marker_list_back);
-
-extern "C" {
-    fn marker_grid_check(image: *const u8, image_length: usize, findings: *mut i64) -> i64;
-    fn marker_read_notation(
-        longitude: bool,
-        degrees: u64,
-        minutes: u64,
-        hundred_thousandths: u64,
-        letter: u8,
-        nd: *mut i64,
-    ) -> i64;
-    fn marker_write_notation(longitude: bool, nd: i64, notation: *mut u64) -> i64;
-}
 
 /// The linked library.
 ///
