@@ -1,13 +1,16 @@
 -- `numbers::is_between` meets its contract: the test decides the first half of `between`. Assumes nothing.
+use mathlib.Core.Path.{refl}
+use Prim.Native.Nat.{_≤_, _<_}
+use native.Mathlib.Omega.{arith}
 use borrow.Author.Tests.{le-leb, lt-leb}
 use Rattle.numbers.proofs.is_between.Statement.{statement}
 use Rattle.numbers.proofs.is_between.Tie as tie
 
 returns : tie.Need-returns
-returns c = rw (le-leb _ _ (c .if1 .taken))
+returns c = let high-enough : c .before .args .low ≤ c .before .args .n = omega arith in rw (le-leb _ _ high-enough) refl
 
 returns-2 : tie.Need-returns-2
-returns-2 c = rw (lt-leb _ _ (c .if1 .left))
+returns-2 c = let too-low : c .before .args .n < c .before .args .low = omega arith in rw (lt-leb _ _ too-low)
 
 pub is-between-spec : {M : Type 1} → statement M
 is-between-spec = tie.close (tie.spec returns returns-2)
