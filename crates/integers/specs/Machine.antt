@@ -1,5 +1,5 @@
 -- Signed machine integers on the parts: ranges, tests, and what the machine reads back from a number's bits.
-use mathlib.Core.Path.{_≡_, refl, sym, subst}
+use mathlib.Core.Path.{_≡_, refl, sym, subst, _∙_}
 use mathlib.Core.Bool.{Bool, true, false, not}
 use Prim.Native.Nat.{ℕ, suc, _+_, _^_, _≤_, _<_, max}
 use native.Mathlib.Omega.{arith}
@@ -109,6 +109,10 @@ plain-le fx fy e = simp (toZ-ofZ fx, toZ-ofZ fy) at e
 -- the signed result z of a call: `kept w64 (c .f .result) (c .f .ok)`
 pub kept : (w : Width) (z : ℤ) → mag z < 2 ^ hbits w → toZ w (ofZ w z) ≡ z
 kept w z h = toZ-ofZ (record { sfits = h })
+
+-- and what the call ensures of it: `told w64 (c .f .ok) (c .f .ensures)`
+pub told : (w : Width) {z y : ℤ} → mag z < 2 ^ hbits w → z ≡ y → toZ w (ofZ w z) ≡ y
+told w {z} h e = kept w z h ∙ e
 
 -- ---- an operation on two parameters: that it fits, as the machine asks it, and what it gives, from the range of the plain result
 module _ {w : Width} {x y : ℤ} (fx : SFits w x) (fy : SFits w y) where

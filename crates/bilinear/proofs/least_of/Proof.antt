@@ -1,7 +1,7 @@
 -- `bilinear::least_of` meets its contract: the lesser of the lesser ones of both rows. Assumes nothing.
 use mathlib.Core.Path.{_∙_}
 use mir.Syntax.{w64}
-use Rattle.integers.specs.Machine.{kept}
+use Rattle.integers.specs.Machine.{told}
 use Rattle.rules.specs.Bilinear.{squareOf}
 use Rattle.bilinear.specs.Mean.{minimum}
 use Rattle.bilinear.proofs.Raising.{read-corner}
@@ -16,9 +16,9 @@ returns c =
     let start = s .before .before .before in
     let w = start .pre in
     let sq = squareOf (start .args .t1) in
-    let south = kept w64 (s .lesser .result) (s .lesser .ok) ∙ s .lesser .ensures ∙ (λ i. minimum (read-corner (sq .southwest) (w .southwest) i) (read-corner (sq .southeast) (w .southeast) i)) in
-    let north = kept w64 (n .lesser2 .result) (n .lesser2 .ok) ∙ n .lesser2 .ensures ∙ (λ i. minimum (read-corner (sq .northwest) (w .northwest) i) (read-corner (sq .northeast) (w .northeast) i)) in
-    kept w64 (c .lesser3 .result) (c .lesser3 .ok) ∙ c .lesser3 .ensures ∙ (λ i. minimum (south i) (north i))
+    let south = told w64 (s .lesser .ok) (s .lesser .ensures) ∙ (λ i. minimum (read-corner (sq .southwest) (w .southwest) i) (read-corner (sq .southeast) (w .southeast) i)) in
+    let north = told w64 (n .lesser2 .ok) (n .lesser2 .ensures) ∙ (λ i. minimum (read-corner (sq .northwest) (w .northwest) i) (read-corner (sq .northeast) (w .northeast) i)) in
+    told w64 (c .lesser3 .ok) (c .lesser3 .ensures) ∙ (λ i. minimum (south i) (north i))
 
 pub least-of-spec : {M : Type 1} → statement M
 least-of-spec =

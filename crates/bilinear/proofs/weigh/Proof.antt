@@ -6,7 +6,7 @@ use lib.IntN.{ℤ, pos, natAbs, _+ℤ_}
 use lib.Signed.{_≤ℤ_}
 use mir.Syntax.{w64}
 use mir.Val.{toZ, ofZ}
-use Rattle.integers.specs.Machine.{kept}
+use Rattle.integers.specs.Machine.{told}
 use Rattle.rules.specs.Bilinear.{squareOf}
 use Rattle.bilinear.specs.Mean.{leastOf, Below}
 use Rattle.bilinear.proofs.Rounding.{cell-area, mean-le}
@@ -16,7 +16,7 @@ use Rattle.bilinear.proofs.weigh.Statement.{statement}
 use Rattle.bilinear.proofs.weigh.Tie as tie
 
 least : (c : tie.After-least-of) → toZ w64 (ofZ w64 (c .least-of .result)) ≡ leastOf (squareOf (c .before .args .t1))
-least c = kept w64 (c .least-of .result) (c .least-of .ok) ∙ c .least-of .ensures
+least c = told w64 (c .least-of .ok) (c .least-of .ensures)
 
 above-asked : {l l' x x' : ℤ} → l' ≡ l → x' ≡ x → natAbs l ≤ 10000000 → natAbs x ≤ 10000000 → l ≤ℤ x → (natAbs l' ≤ 10000000) × (natAbs x' ≤ 10000000) × (l' ≤ℤ x')
 above-asked e f h k m = rw (e, f) (h, k, m)
@@ -80,7 +80,7 @@ returns c =
     let m = c .before in
     let l = m .before .before .before .before .before .before .before .before .before in
     let cell = l .before .pre .1 in
-    kept w64 (c .raised .result) (c .raised .ok) ∙ c .raised .ensures ∙ (λ i. least l i +ℤ pos (m .rounded-mean .ensures i))
+    told w64 (c .raised .ok) (c .raised .ensures) ∙ (λ i. least l i +ℤ pos (m .rounded-mean .ensures i))
     ∙ sym (raised-value (cell .north) (cell .east) (cell-area cell) (gaps (m .before)))
 
 pub weigh-spec : {M : Type 1} → statement M

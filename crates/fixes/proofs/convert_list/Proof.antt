@@ -6,7 +6,7 @@ use mathlib.Core.Path.{_≡_, sym, ap, _∙_}
 use denote.Ref.{now}
 use lib.ListN.{length}
 use mir.Syntax.{w64}
-use Rattle.integers.specs.Machine.{kept}
+use Rattle.integers.specs.Machine.{told}
 use Rattle.rules.specs.Answers.{values, number, numberOf, openedOf}
 use Rattle.rules.specs.Lists.{question14, convertList}
 use Rattle.rules.specs.Questions.{opening}
@@ -30,7 +30,7 @@ returns c =
     let t = c .before .before in
     let q = lengths t _ (not-true _ (c .before .if1 .taken)) in
     let n = c .refusal-number in
-    (rw (found (t .before .before .before), q) (kept w64 (n .result) (n .ok) ∙ n .ensures), rw (found (t .before .before .before), q))
+    (rw (found (t .before .before .before), q) (told w64 (n .ok) (n .ensures)), rw (found (t .before .before .before), q))
 
 convert-all-requires : tie.Need-convert-all-requires
 convert-all-requires c κs =
@@ -49,7 +49,7 @@ returns-3 : tie.Need-returns-3
 unfolding convertList
 returns-3 c =
     let n = c .refusal-number2 in
-    (rw (refused (c .before .before)) (kept w64 (n .result) (n .ok) ∙ n .ensures), rw (refused (c .before .before)))
+    (rw (refused (c .before .before)) (told w64 (n .ok) (n .ensures)), rw (refused (c .before .before)))
 
 pub convert-list-spec : {M : Type 1} → statement M
 convert-list-spec =

@@ -5,7 +5,7 @@ use native.Mathlib.Omega.{arith}
 use denote.Ref.{now}
 use mir.Syntax.{w64}
 use mir.ValLaws.{toZ-pos}
-use Rattle.integers.specs.Machine.{zarith, kept}
+use Rattle.integers.specs.Machine.{zarith, told}
 use Rattle.rules.specs.Answers.{values, checkedOf}
 use Rattle.rules.specs.Check.{gridCheck}
 use Rattle.slopes.specs.Rows.{FindingsWithin}
@@ -53,7 +53,7 @@ returns c = let at = c .before .before .before .before .before .before .before .
 
 returns-2 : tie.Need-returns-2
 returns-2 c = let e = sym (c .before .before .before .before .grid-check .ensures) ∙ ap checkedOf (c .before .before .r .given .1) in
-    (rw e (kept w64 (c .refusal-number .result) (c .refusal-number .ok) ∙ c .refusal-number .ensures), rw e)
+    (rw e (told w64 (c .refusal-number .ok) (c .refusal-number .ensures)), rw e)
 
 pub marker-grid-check-spec : {M : Type 1} → statement M
 marker-grid-check-spec =

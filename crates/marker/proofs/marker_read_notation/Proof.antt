@@ -1,7 +1,7 @@
 -- `marker::marker_read_notation` meets its contract: from what `read_notation` ensures. Assumes nothing.
 use mathlib.Core.Path.{_≡_, sym, ap, _∙_}
 use mir.Syntax.{w64}
-use Rattle.integers.specs.Machine.{kept}
+use Rattle.integers.specs.Machine.{kept, told}
 use Rattle.rules.specs.Answers.{readingOf}
 use Rattle.rules.specs.Notation.{readNotation}
 use borrow.Author.Needs.{needs}
@@ -19,7 +19,7 @@ returns c = let e = sym (read (c .before .before .before)) ∙ ap readingOf (c .
 
 returns-2 : tie.Need-returns-2
 returns-2 c = let e = sym (read (c .before .before .before .before)) ∙ ap readingOf (c .before .before .r .given .1) in
-    (rw e (kept w64 (c .refusal-number .result) (c .refusal-number .ok) ∙ c .refusal-number .ensures), rw e)
+    (rw e (told w64 (c .refusal-number .ok) (c .refusal-number .ensures)), rw e)
 
 pub marker-read-notation-spec : {M : Type 1} → statement M
 marker-read-notation-spec =

@@ -1,7 +1,7 @@
 -- `marker::marker_write_notation` meets its contract: from what `write_notation` ensures. Assumes nothing.
 use mathlib.Core.Path.{_≡_, refl, sym, ap, _∙_}
 use mir.Syntax.{w64}
-use Rattle.integers.specs.Machine.{kept}
+use Rattle.integers.specs.Machine.{kept, told}
 use Rattle.rules.specs.Answers.{values, number, numberOf, writingOf}
 use Rattle.rules.specs.Notation.{writeNotation}
 use borrow.Author.Needs.{needs}
@@ -24,7 +24,7 @@ returns c = let e = written (c .before .before .before) in (rw e, rw e refl)
 
 returns-2 : tie.Need-returns-2
 returns-2 c = let e = refused (c .before .before) in
-    (rw e (kept w64 (c .refusal-number .result) (c .refusal-number .ok) ∙ c .refusal-number .ensures), rw e)
+    (rw e (told w64 (c .refusal-number .ok) (c .refusal-number .ensures)), rw e)
 
 pub marker-write-notation-spec : {M : Type 1} → statement M
 marker-write-notation-spec =

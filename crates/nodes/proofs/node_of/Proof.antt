@@ -1,9 +1,8 @@
 -- `nodes::node_of` meets its contract: from what `i32_at` ensures, thrice. Assumes nothing.
-use mathlib.Core.Path.{_∙_}
 use borrow.Author.Needs.{needs}
 use Rattle.nodes.specs.Cell.{nodeOf}
 use mir.Syntax.{w64}
-use Rattle.integers.specs.Machine.{kept}
+use Rattle.integers.specs.Machine.{told}
 use Rattle.nodes.proofs.node_of.Statement.{statement}
 use Rattle.nodes.proofs.node_of.Tie as tie
 
@@ -13,10 +12,7 @@ returns c =
     let lat = c .before .before .i32-at in
     let lon = c .before .i32-at2 in
     let up = c .i32-at3 in
-    let latitude = kept w64 (lat .result) (lat .ok) ∙ lat .ensures in
-    let longitude = kept w64 (lon .result) (lon .ok) ∙ lon .ensures in
-    let height = kept w64 (up .result) (up .ok) ∙ up .ensures in
-    λ i. record { latitude = latitude i; longitude = longitude i; height = height i }
+    λ i. record { latitude = told w64 (lat .ok) (lat .ensures) i; longitude = told w64 (lon .ok) (lon .ensures) i; height = told w64 (up .ok) (up .ensures) i }
 
 pub node-of-spec : {M : Type 1} → statement M
 node-of-spec =

@@ -10,7 +10,7 @@ use mir.Facts.{toZ-ofZ}
 use borrow.Author.Needs.{needs}
 use borrow.Author.Tests.{not-true, not-false}
 use Rattle.integers.specs.Difference.{lit, _⊖_}
-use Rattle.integers.specs.Machine.{zarith, range, got, kept}
+use Rattle.integers.specs.Machine.{zarith, range, got, told}
 use Rattle.rules.specs.Answers.{values}
 use Rattle.rules.specs.Notation.{perDegree, total, magnitudeRead}
 use Rattle.notation.specs.Parts.{amountsFit, amounts, axis-most, read-in-parts}
@@ -36,7 +36,7 @@ size-of-requires c κs = omega (arith, small-total (c .before))
 
 -- the size in nd, as the machine reads it back
 size-is : (c : tie.After-size-of) → toZ w64 (ofZ w64 (c .size-of .result)) ≡ pos (magnitudeRead (total (c .before .before .before .before .args .n)))
-size-is c = kept w64 (c .size-of .result) (c .size-of .ok) ∙ c .size-of .ensures ∙ ap (λ (t : ℕ). pos (magnitudeRead t)) (c .before .total-of .ensures)
+size-is c = told w64 (c .size-of .ok) (c .size-of .ensures) ∙ ap (λ (t : ℕ). pos (magnitudeRead t)) (c .before .total-of .ensures)
 
 sub-t11 : tie.Need-sub-t11
 sub-t11 c =

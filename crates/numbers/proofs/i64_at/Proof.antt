@@ -2,7 +2,7 @@
 use mathlib.Core.Path.{_∙_}
 use Prim.Native.Nat.{_+_, _*_}
 use mir.Syntax.{w64}
-use Rattle.integers.specs.Machine.{kept}
+use Rattle.integers.specs.Machine.{told}
 use borrow.Author.Needs.{needs}
 use Rattle.rules.specs.Image.{twosComplement, u64At, i64At}
 use Rattle.numbers.proofs.i64_at.Statement.{statement}
@@ -12,7 +12,7 @@ returns : tie.Need-returns
 unfolding i64At u64At
 returns c = let low = c .before .before .u32-at .ensures .0 in
     let high = c .before .u32-at2 .ensures .0 in
-    kept w64 (c .signed64 .result) (c .signed64 .ok) ∙ c .signed64 .ensures ∙ (λ i. twosComplement 9223372036854775808 (low i + 4294967296 * high i))
+    told w64 (c .signed64 .ok) (c .signed64 .ensures) ∙ (λ i. twosComplement 9223372036854775808 (low i + 4294967296 * high i))
 
 pub i64-at-spec : {M : Type 1} → statement M
 i64-at-spec =

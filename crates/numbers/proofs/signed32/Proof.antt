@@ -6,7 +6,7 @@ use lib.Dec.{ltb}
 use lib.IntN.{pos, _-ℤ_}
 use mir.Syntax.{w64}
 use Rattle.integers.specs.Difference.{lit, _⊖_}
-use Rattle.integers.specs.Machine.{zarith, kept}
+use Rattle.integers.specs.Machine.{zarith, told}
 use borrow.Author.Needs.{needs}
 use Rattle.numbers.proofs.signed32.Statement.{statement}
 use Rattle.numbers.proofs.signed32.Tie as tie
@@ -17,7 +17,7 @@ signed n h true t = omega (zarith, lit ((n + 2147483648) % 4294967296) ⊖ lit 2
 signed n h false t = omega (zarith, lit ((n + 2147483648) % 4294967296) ⊖ lit 2147483648, lit n ⊖ lit 4294967296)
 
 returns : tie.Need-returns
-returns c = kept w64 (c .lowered .result) (c .lowered .ok) ∙ c .lowered .ensures ∙ signed (c .before .args .n) (c .before .pre) _ refl
+returns c = told w64 (c .lowered .ok) (c .lowered .ensures) ∙ signed (c .before .args .n) (c .before .pre) _ refl
 
 pub signed32-spec : {M : Type 1} → statement M
 signed32-spec = tie.close (tie.spec (λ c. search needs) (λ c κs. search needs) returns)
