@@ -157,23 +157,16 @@ fn values_in(h: HeldCell, g: Geometry, p: Point) -> Node
     requires { ⌜ (h .passes ≡ true) × Holds h g p ⌝ }
     ensures { λ r. ⌜ r ≡ valuesIn h g p ⌝ }
 {
-    let north_step = g.latitude.spacing;
-    let east_step = g.longitude.spacing;
-    let at = parts_in(h, g, p);
-    let north = square_of(h.corners, Value::LatitudeCorrection);
-    let east = square_of(h.corners, Value::LongitudeCorrection);
-    let up = square_of(h.corners, Value::Height);
-    let latitude = weigh(north, at.north, at.east, north_step, east_step);
-    let longitude = weigh(east, at.north, at.east, north_step, east_step);
-    let height = weigh(up, at.north, at.east, north_step, east_step);
+    let shift = corrections_in(h, g, p);
+    let height = height_in(h, g, p);
     Node {
-        latitude,
-        longitude,
+        latitude: shift.latitude,
+        longitude: shift.longitude,
         height,
     }
 }
 
-// The two corrections alone.
+// The two corrections there.
 pub fn corrections_in(h: HeldCell, g: Geometry, p: Point) -> Correction
     requires { ⌜ (h .passes ≡ true) × Holds h g p ⌝ }
     ensures { λ r. ⌜ r ≡ correctionsIn h g p ⌝ }
@@ -191,7 +184,7 @@ pub fn corrections_in(h: HeldCell, g: Geometry, p: Point) -> Correction
     }
 }
 
-// The quasi-geoid height alone.
+// The quasi-geoid height there.
 pub fn height_in(h: HeldCell, g: Geometry, p: Point) -> i64
     requires { ⌜ (h .passes ≡ true) × Holds h g p ⌝ }
     ensures { λ r. ⌜ r ≡ heightIn h g p ⌝ }
