@@ -8,16 +8,18 @@
 
 #include "marker.h"
 
-/* The whole of a file, or NULL. */
+/* The whole of a file, or NULL if it cannot be read: a pipe cannot, for its size is not known beforehand. */
 static uint8_t *read_file(const char *name, size_t *size) {
     FILE *file = fopen(name, "rb");
     if (file == NULL) {
         return NULL;
     }
-    fseek(file, 0, SEEK_END);
-    *size = (size_t)ftell(file);
-    rewind(file);
-    uint8_t *bytes = malloc(*size + 1);
+    uint8_t *bytes = NULL;
+    long end = fseek(file, 0, SEEK_END) == 0 ? ftell(file) : -1;
+    if (end >= 0 && fseek(file, 0, SEEK_SET) == 0) {
+        *size = (size_t)end;
+        bytes = malloc(*size + 1); /* not 0, for which malloc may give NULL */
+    }
     if (bytes != NULL && fread(bytes, 1, *size, file) != *size) {
         free(bytes);
         bytes = NULL;
@@ -34,10 +36,14 @@ static void print_angle(bool longitude, int64_t nd) {
 }
 
 int main(int count, char **words) {
-    size_t size = 0;
-    uint8_t *image = count == 5 ? read_file(words[1], &size) : NULL;
-    if (image == NULL) {
+    if (count != 5) {
         fprintf(stderr, "usage: convert IMAGE LATITUDE LONGITUDE HEIGHT\n");
+        return 2;
+    }
+    size_t size = 0;
+    uint8_t *image = read_file(words[1], &size);
+    if (image == NULL) {
+        fprintf(stderr, "convert: cannot read %s\n", words[1]);
         return 2;
     }
     int64_t fix[3] = {atoll(words[2]), atoll(words[3]), atoll(words[4])};

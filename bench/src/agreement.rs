@@ -5,7 +5,7 @@ use bench::grid::Grid;
 use bench::{fixes, Implementation, Way};
 
 /// Fixes on, near and past bounds and limits that are compared beside those of the measurement.
-const OTHER_FIXES: usize = 10_000;
+pub const OTHER_FIXES: usize = 10_000;
 
 /// The largest differences of PROJ's answers from the library's: angles in nd, heights in units
 /// of 0.0001 m.

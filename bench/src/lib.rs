@@ -6,12 +6,7 @@ pub mod grid;
 pub mod library;
 pub mod plain;
 
-/// Out (ETRS89 to Bessel and NAP) or back.
-#[derive(Clone, Copy, Debug, PartialEq, Eq)]
-pub enum Way {
-    Out,
-    Back,
-}
+pub use binding::Way;
 
 /// The implementations over whole numbers.
 #[derive(Clone, Copy, Debug, PartialEq, Eq)]

@@ -1,29 +1,14 @@
 //! The built library libmarker.a, through its C interface.
 
 use crate::Way;
-use binding::{marker_grid_check, marker_list_back, marker_list_out};
 
 // Safety of the calls: each pointer comes from a slice that lives through the call, with that
 // slice's own length, and only what was lent as changeable is written.
 
 pub fn list(way: Way, image: &[u8], fixes: &[i64], answers: &mut [i64]) -> i64 {
-    let call = match way {
-        Way::Out => marker_list_out,
-        Way::Back => marker_list_back,
-    };
-    let (written, length) = (answers.as_mut_ptr(), answers.len());
-    unsafe {
-        call(
-            image.as_ptr(),
-            image.len(),
-            fixes.as_ptr(),
-            fixes.len(),
-            written,
-            length,
-        )
-    }
+    unsafe { binding::list(way, image, fixes, answers) }
 }
 
 pub fn grid_check(image: &[u8], findings: &mut [i64; 6]) -> i64 {
-    unsafe { marker_grid_check(image.as_ptr(), image.len(), findings.as_mut_ptr()) }
+    unsafe { binding::marker_grid_check(image.as_ptr(), image.len(), findings.as_mut_ptr()) }
 }

@@ -2,6 +2,7 @@
 
 use crate::counts::Counts;
 use crate::speeds::{Conversions, Speeds, LENGTHS, SIZES};
+use crate::table::size_words;
 use std::fmt::Write;
 
 /// A panel's title, the names along its foot, and its lines.
@@ -47,11 +48,7 @@ pub fn write(speeds: &Speeds, counts: &Counts) -> String {
 }
 
 fn panels(speeds: &Speeds, counts: &Counts) -> Vec<Panel> {
-    let sizes = || {
-        SIZES
-            .map(|(rows, columns)| format!("{rows} × {columns}"))
-            .to_vec()
-    };
+    let sizes = || SIZES.map(size_words).to_vec();
     let lengths = || LENGTHS.map(|it| it.to_string()).to_vec();
     let counted = || (1..=5).map(|it| format!("count {it}")).collect();
     let out = |it: &Conversions| it.out.to_vec();

@@ -12,11 +12,17 @@ use std::hint::black_box;
 /// Rows and columns of the grids.
 pub const SIZES: [(u32, u32); 5] = [(3, 3), (64, 64), (481, 301), (1_024, 1_024), (4_096, 4_096)];
 
-/// Lengths of the lists over the grid of 481 by 301.
+/// Fixes in the lists over them.
+pub const LENGTH_OF_SIZES: usize = 1_000;
+
+/// Lengths of the other lists.
 pub const LENGTHS: [usize; 5] = [1, 10, 100, 1_000, 10_000];
 
-const SIZE_OF_LENGTHS: (u32, u32) = (481, 301);
-const LENGTH_OF_SIZES: usize = 1_000;
+/// Rows and columns of the grid for those, and for the distance of PROJ's answers.
+pub const SIZE_OF_LENGTHS: (u32, u32) = SIZES[2];
+
+/// Fixes whose distance is taken.
+pub const LENGTH_OF_DISTANCE: usize = 10_000;
 
 /// Conversions per second of the library, the plain implementation and PROJ.
 pub type Three = [f64; 3];
@@ -27,7 +33,7 @@ pub struct Speeds {
     pub by_length: Vec<Conversions>,
     /// Nodes per second of the library and the plain implementation, by grid size.
     pub checks: Vec<[f64; 2]>,
-    /// How far PROJ's answers lie from the library's, on the grid of 481 by 301.
+    /// How far PROJ's answers lie from the library's.
     pub distance: Distance,
 }
 
@@ -67,8 +73,9 @@ fn measure_lengths(grid: &Grid, pipeline: &Pipeline, speeds: &mut Speeds) {
         let list = fixes::spread(&grid.geometry, length);
         agreement::require(grid, &list);
         speeds.by_length.push(conversions(grid, pipeline, &list));
-        speeds.distance = agreement::distance(grid, pipeline, &list);
     }
+    let list = fixes::spread(&grid.geometry, LENGTH_OF_DISTANCE);
+    speeds.distance = agreement::distance(grid, pipeline, &list);
 }
 
 /// PROJ's pipeline over the grid's files, which are written first.

@@ -1,9 +1,13 @@
 //! The table, in Markdown.
 
+use crate::agreement::OTHER_FIXES;
 use crate::counts::Counts;
 use crate::measure::REPEATS;
 use crate::proj;
-use crate::speeds::{Conversions, Speeds, Three, LENGTHS, SIZES};
+use crate::speeds::{
+    Conversions, Speeds, Three, LENGTHS, LENGTH_OF_DISTANCE, LENGTH_OF_SIZES, SIZES,
+    SIZE_OF_LENGTHS,
+};
 use std::fmt::Write;
 use std::fs;
 use std::process::Command;
@@ -20,17 +24,24 @@ pub fn write(speeds: &Speeds, counts: &Counts) -> String {
          load of the machine was {} after them. The counts of instructions are exact.",
         load()
     );
-    let sizes = SIZES.map(|(rows, columns)| format!("{rows} × {columns}"));
+    let sizes = SIZES.map(size_words);
     let lengths = LENGTHS.map(|length| length.to_string());
-    text += "\n## Conversions per second, by grid size (lists of 1,000 fixes)\n";
+    let (length, size) = (grouped(LENGTH_OF_SIZES as f64), size_words(SIZE_OF_LENGTHS));
+    let head = "\n## Conversions per second, by";
+    let _ = writeln!(text, "{head} grid size (lists of {length} fixes)");
     text += &conversions("grid", &sizes, &speeds.by_size);
-    text += "\n## Conversions per second, by list length (grid of 481 × 301)\n";
+    let _ = writeln!(text, "{head} list length (grid of {size})");
     text += &conversions("fixes", &lengths, &speeds.by_length);
     text += &checks(&sizes, &speeds.checks);
     text += &instructions(&sizes, counts);
     text += &agreement(speeds);
     text += &goals(speeds, counts);
     text
+}
+
+/// Rows and columns.
+pub fn size_words((rows, columns): (u32, u32)) -> String {
+    format!("{rows} × {columns}")
 }
 
 /// The machine and the programs.
@@ -116,10 +127,12 @@ fn instructions(sizes: &[String], counts: &Counts) -> String {
 }
 
 fn agreement(speeds: &Speeds) -> String {
+    let [others, taken] = [OTHER_FIXES, LENGTH_OF_DISTANCE].map(|count| grouped(count as f64));
+    let size = size_words(SIZE_OF_LENGTHS);
     format!(
         "\n## Agreement\n\nThe library and the i128 implementation gave the same answers to all \
-         fixes above, and to 10,000 more on, near and past each grid's bounds. On the grid of \
-         481 × 301 PROJ's answers to 10,000 fixes lie within {:.2} nd and {:.2} units of the \
+         fixes above, and to {others} more on, near and past each grid's bounds. On the grid of \
+         {size} PROJ's answers to {taken} fixes lie within {:.2} nd and {:.2} units of the \
          library's.\n",
         speeds.distance.angle, speeds.distance.height
     )

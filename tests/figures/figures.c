@@ -62,8 +62,10 @@ static bool passes(const uint8_t *image, const int64_t wanted[6]) {
 }
 
 static bool check_refuses(const uint8_t *image, int64_t number) {
-    int64_t findings[6] = {7, 7, 7, 7, 7, 7};
-    return marker_grid_check(image, SIZE, findings) == number && findings[0] == 7 && findings[5] == 7;
+    const int64_t before[6] = {1, 2, 3, 4, 5, 6};
+    int64_t findings[6];
+    memcpy(findings, before, sizeof findings);
+    return marker_grid_check(image, SIZE, findings) == number && memcmp(findings, before, sizeof findings) == 0;
 }
 
 static bool writes(int64_t nd, uint64_t degrees, uint64_t minutes, uint64_t fraction, char letter) {

@@ -1,4 +1,32 @@
-//! The functions of include/marker.h, which says what each takes, gives and leaves.
+//! The functions of include/marker.h, which says what each takes, gives and leaves, and one for
+//! the list calls of both ways.
+
+/// Out (ETRS89 to Bessel and NAP) or back.
+#[derive(Clone, Copy, Debug, PartialEq, Eq)]
+pub enum Way {
+    Out,
+    Back,
+}
+
+/// The list call of a way: its number.
+///
+/// # Safety
+/// Image and fixes may be read and the answers written throughout the call.
+#[inline]
+pub unsafe fn list(way: Way, image: *const [u8], fixes: *const [i64], answers: *mut [i64]) -> i64 {
+    let call = match way {
+        Way::Out => marker_list_out,
+        Way::Back => marker_list_back,
+    };
+    call(
+        image.cast(),
+        image.len(),
+        fixes.cast(),
+        fixes.len(),
+        answers.cast(),
+        answers.len(),
+    )
+}
 
 /// Declares the list calls, which are alike but for their names.
 macro_rules! list_calls {

@@ -1,15 +1,8 @@
 //! One call, how a converter performs it over lent memory, and what comes of it.
 
 use crate::lent::Lent;
-use crate::Converter;
+use crate::{Converter, Way};
 use reference::{Axis, Notation, Number};
-
-/// Out (ETRS89 to Bessel and NAP) or back.
-#[derive(Clone, Copy, Debug, PartialEq, Eq)]
-pub enum Way {
-    Out,
-    Back,
-}
 
 /// What a list call is given.
 #[derive(Clone, Debug, PartialEq, Eq)]

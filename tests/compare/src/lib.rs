@@ -10,17 +10,16 @@ mod comparison;
 mod converter;
 mod coverage;
 mod lent;
-#[cfg(feature = "library")]
 mod library;
 mod pages;
 mod random;
 mod report;
 
-pub use call::{Call, List, Outcome, Way};
+pub use binding::Way;
+pub use call::{Call, List, Outcome};
 pub use command::{parse, Command, USAGE};
 pub use comparison::{compare, compare_case, Difference};
 pub use converter::{Converter, Reference};
 pub use coverage::{Coverage, FULL_RUN};
-#[cfg(feature = "library")]
 pub use library::Library;
 pub use random::Random;

@@ -1,10 +1,7 @@
 //! The built library libmarker.a as a converter, through its C interface.
 
 use crate::{Converter, Way};
-use binding::{
-    marker_grid_check, marker_list_back, marker_list_out, marker_read_notation,
-    marker_write_notation,
-};
+use binding::{marker_grid_check, marker_read_notation, marker_write_notation};
 use reference::{Axis, Notation, Number};
 
 /// The linked library.
@@ -20,20 +17,7 @@ impl Converter for Library {
     }
 
     fn list(&self, way: Way, image: &mut [u8], fixes: &mut [i64], answers: &mut [i64]) -> Number {
-        let list = match way {
-            Way::Out => marker_list_out,
-            Way::Back => marker_list_back,
-        };
-        unsafe {
-            list(
-                image.as_mut_ptr(),
-                image.len(),
-                fixes.as_mut_ptr(),
-                fixes.len(),
-                answers.as_mut_ptr(),
-                answers.len(),
-            )
-        }
+        unsafe { binding::list(way, image as *mut [u8], fixes as *mut [i64], answers) }
     }
 
     fn read_notation(&self, axis: Axis, notation: Notation, nd: &mut i64) -> Number {

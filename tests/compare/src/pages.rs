@@ -1,6 +1,6 @@
 //! Memory whose end is also the end of what a program may touch: the page behind it is closed.
 
-use std::ffi::{c_int, c_void};
+use std::ffi::{c_int, c_long, c_void};
 
 extern "C" {
     fn mmap(
@@ -13,26 +13,35 @@ extern "C" {
     ) -> *mut c_void;
     fn mprotect(at: *mut c_void, bytes: usize, access: c_int) -> c_int;
     fn munmap(at: *mut c_void, bytes: usize) -> c_int;
+    fn sysconf(name: c_int) -> c_long;
 }
 
 /// Linux's words for these calls.
 const NO_ACCESS: c_int = 0;
 const READ_AND_WRITE: c_int = 1 | 2;
 const PRIVATE_AND_ANONYMOUS: c_int = 0x02 | 0x20;
+const PAGE_SIZE: c_int = 30;
 
-const PAGE_BYTES: usize = 4096;
+/// The size of this machine's pages.
+fn page_bytes() -> usize {
+    // Safety: the call only gives a number.
+    let bytes = unsafe { sysconf(PAGE_SIZE) };
+    usize::try_from(bytes).expect("the page size")
+}
 
 /// Pages of the process's own, all zero at first, with a closed page behind them.
 pub struct Pages {
     start: *mut c_void,
     open_bytes: usize,
+    all_bytes: usize,
 }
 
 impl Pages {
     /// Pages that hold at least so many bytes.
     pub fn new(bytes: usize) -> Pages {
-        let open_bytes = bytes.next_multiple_of(PAGE_BYTES);
-        let all_bytes = open_bytes + PAGE_BYTES;
+        let page = page_bytes();
+        let open_bytes = bytes.next_multiple_of(page);
+        let all_bytes = open_bytes + page;
         // Safety: the kernel chooses the place; only the last page of the mapping is closed.
         let start = unsafe {
             let start = mmap(
@@ -44,14 +53,15 @@ impl Pages {
                 0,
             );
             assert_ne!(start as isize, -1, "mmap");
-            assert_eq!(
-                mprotect(start.byte_add(open_bytes), PAGE_BYTES, NO_ACCESS),
-                0,
-                "mprotect"
-            );
+            let closed = mprotect(start.byte_add(open_bytes), page, NO_ACCESS);
+            assert_eq!(closed, 0, "mprotect");
             start
         };
-        Pages { start, open_bytes }
+        Pages {
+            start,
+            open_bytes,
+            all_bytes,
+        }
     }
 
     /// The last so many bytes before the closed page.
@@ -65,7 +75,7 @@ impl Pages {
 impl Drop for Pages {
     fn drop(&mut self) {
         // Safety: the mapping is this value's own, and nothing borrowed from it is left.
-        let done = unsafe { munmap(self.start, self.open_bytes + PAGE_BYTES) };
+        let done = unsafe { munmap(self.start, self.all_bytes) };
         assert_eq!(done, 0, "munmap");
     }
 }

@@ -105,6 +105,6 @@ impl Display for Difference {
             }
         }
         let case = format!("{}:{}", self.seed, self.index);
-        writeln!(to, "replay with: compare --replay {case}")
+        write!(to, "replay with: compare --replay {case}")
     }
 }

@@ -19,6 +19,12 @@ fn point_inside(random: &mut Random, image: &Image, depth: i128) -> Option<Point
     })
 }
 
+/// A height within the limit of zero, at the limit often.
+fn height_within(random: &mut Random, limit: i64) -> i128 {
+    let inner = random.around_zero(limit);
+    random.pick(&[limit, -limit, inner, inner]).into()
+}
+
 /// The larger of the two angles' differences.
 fn distance(one: Point, other: Point) -> u128 {
     let latitude = one.latitude.abs_diff(other.latitude);
@@ -71,8 +77,8 @@ fn try_back_and_out(image: &Image, bessel: Fix) {
 
 #[test]
 fn every_grid_that_passes_the_check_keeps_the_return_promise() {
-    let mut trips = 0;
-    for index in 0..20_000 {
+    let (mut out_and_back, mut back_and_out) = (0, 0);
+    for index in 0..40_000 {
         let Call::GridCheck { image } = cases::call(SEED, index) else {
             continue;
         };
@@ -82,15 +88,18 @@ fn every_grid_that_passes_the_check_keeps_the_return_promise() {
         let image = open_image(&image).expect("checked");
         let mut random = Random::for_case(SEED + 1, index);
         for _ in 0..10 {
-            let height = random.around_zero(99_000_000).into();
             if let Some(point) = point_inside(&mut random, &image, 10_000_000) {
+                let height = height_within(&mut random, 100_000_000);
                 try_out_and_back(&image, Fix { point, height });
-                trips += 1;
+                out_and_back += 1;
             }
             if let Some(point) = point_inside(&mut random, &image, 20_000_000) {
+                let height = height_within(&mut random, 99_000_000);
                 try_back_and_out(&image, Fix { point, height });
+                back_and_out += 1;
             }
         }
     }
-    assert!(trips > 1_000, "{trips}");
+    assert!(out_and_back > 1_000, "{out_and_back}");
+    assert!(back_and_out > 1_000, "{back_and_out}");
 }

@@ -3,7 +3,7 @@
 
 mod slipped;
 
-use compare::{compare, Difference, Reference};
+use compare::{compare, Difference};
 use slipped::{Slip, Slipped};
 
 const SEED: u64 = 20_260_101;
@@ -13,11 +13,6 @@ const FEW_THOUSAND: u64 = 4_000;
 fn caught(slip: Slip) -> Box<Difference> {
     let compared = compare(&Slipped(slip), SEED, FEW_THOUSAND, |_| {});
     compared.expect_err("the slip is caught")
-}
-
-#[test]
-fn the_reference_has_no_difference_from_itself() {
-    assert!(compare(&Reference, SEED, FEW_THOUSAND, |_| {}).is_ok());
 }
 
 #[test]

@@ -1,8 +1,7 @@
 //! The independent reference: document 01 said once more, over whole-number fractions.
 //!
-//! It is written from the paper's words alone and shares no code and no constants with
-//! `crates/`. It is meant to be read beside the paper, not to be fast. Every public function
-//! answers either its values or the paper's number.
+//! It shares no code and no constants with `crates/`. It is meant to be read beside the paper, not
+//! to be fast. Every public function answers either its values or the paper's number.
 
 mod check;
 mod fraction;

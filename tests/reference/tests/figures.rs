@@ -4,9 +4,11 @@
 mod common;
 
 use common::{fix_at, g_node, grid_g, image_of, point_at, G_TRAILER};
-use reference::{grid_check, lookup, open_image, way_back, way_out, Answer, Fix, Number};
+use reference::{
+    grid_check, lookup, open_image, way_back, way_out, Answer, Fix, Image, Number, Point,
+};
 
-type Way = fn(&reference::Image, Fix) -> Result<Answer, Number>;
+type Way = fn(&Image, Fix) -> Result<Answer, Number>;
 
 fn convert(way: Way, image: &[u8], fix: Fix) -> Result<Answer, Number> {
     way(&open_image(image)?, fix)
@@ -121,24 +123,35 @@ fn starred_100_110_120_out_602_450_gives_497_500_height_10000_count_2() {
     assert_eq!(answered, answer(497, 500, 10_000, 2));
 }
 
+/// The first slip: "Corrections looked up at the ETRS89 point and subtracted a single time".
+fn single_subtraction(image: &Image, fix: Fix) -> Result<Answer, Number> {
+    let [latitude, longitude, _] = lookup(image, fix.point)?;
+    let point = Point {
+        latitude: fix.point.latitude - latitude,
+        longitude: fix.point.longitude - longitude,
+    };
+    let [_, _, quasi_geoid] = lookup(image, point)?;
+    Ok(Answer {
+        point,
+        height: fix.height - quasi_geoid,
+        count: 1,
+    })
+}
+
 #[test]
 fn slip_100_110_120_single_subtraction_at_the_etrs89_point_gives_496() {
     let image = g_with_latitude_corrections([100, 110, 120]);
-    let image = open_image(&image).unwrap();
-    let etrs89 = fix_at(602, 450, 440_003).point;
-    let correction = lookup(&image, etrs89).unwrap()[0];
-    assert_eq!(etrs89.latitude - correction, point_at(496, 0).latitude);
+    let slipped = convert(single_subtraction, &image, fix_at(602, 450, 440_003));
+    assert_eq!(slipped, answer(496, 500, 10_000, 1));
 }
 
 #[test]
 fn slip_on_g_single_subtraction_differs_only_in_its_count() {
-    let image = grid_g();
-    let image = open_image(&image).unwrap();
-    let etrs89 = fix_at(602, 450, 440_003).point;
-    let [latitude, longitude, _] = lookup(&image, etrs89).unwrap();
-    let bessel = point_at(500, 500);
-    assert_eq!(etrs89.latitude - latitude, bessel.latitude);
-    assert_eq!(etrs89.longitude - longitude, bessel.longitude);
+    let fix = fix_at(602, 450, 440_003);
+    let slipped = convert(single_subtraction, &grid_g(), fix).unwrap();
+    let right = convert(way_out, &grid_g(), fix).unwrap();
+    assert_eq!((slipped.count, right.count), (1, 2));
+    assert_eq!(slipped, Answer { count: 1, ..right });
 }
 
 #[test]

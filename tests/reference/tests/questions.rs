@@ -175,7 +175,7 @@ fn question_9_asks_all_three_values_of_all_four_nodes() {
 }
 
 /// A grid with spacings 1 and two columns: the latitude correction at row r is the r-th one.
-fn ladder(corrections: &[i32]) -> Vec<u8> {
+fn grid_by_row(corrections: &[i32]) -> Vec<u8> {
     let rows = corrections.len() as u32;
     let trailer = Trailer {
         latitude_spacing: 1,
@@ -188,37 +188,37 @@ fn ladder(corrections: &[i32]) -> Vec<u8> {
     image_of(&trailer, |row, _| [corrections[row as usize], 0, 0])
 }
 
-/// The way out from row 5 of a ladder: the row and count, or the number.
-fn climb(corrections: &[i32]) -> Result<(i128, i128), Number> {
-    let bytes = ladder(corrections);
+/// The way out from row 5 of such a grid: the row and count, or the number.
+fn out_from_row_5(corrections: &[i32]) -> Result<(i128, i128), Number> {
+    let bytes = grid_by_row(corrections);
     let answer = way_out(&open_image(&bytes).unwrap(), fix_at(5, 0, 0))?;
     Ok((answer.point.latitude - i128::from(SOUTH), answer.count))
 }
 
 #[test]
 fn question_10_precedes_the_stop_test() {
-    assert_eq!(climb(&[0, 0, 0, 0, 0, 1]), Ok((4, 1)));
-    assert_eq!(climb(&[0, 0, 0, 0, 0, -1]), Err(10));
+    assert_eq!(out_from_row_5(&[0, 0, 0, 0, 0, 1]), Ok((4, 1)));
+    assert_eq!(out_from_row_5(&[0, 0, 0, 0, 0, -1]), Err(10));
 }
 
 #[test]
-fn a_ladder_that_stops_at_p5_has_count_5_and_uses_the_cell_of_p5() {
-    // The rows climbed: 5, 8, 10, 7, 3, 2.
+fn a_way_that_stops_at_p5_has_count_5_and_uses_the_cell_of_p5() {
+    // The rows of p0 to p5: 5, 8, 10, 7, 3, 2.
     let mut corrections = [0, 0, 0, 3, 0, -3, 0, 2, -5, 0, -2, 0];
-    assert_eq!(climb(&corrections), Ok((2, 5)));
+    assert_eq!(out_from_row_5(&corrections), Ok((2, 5)));
     corrections[2] = 10_000_001;
-    assert_eq!(climb(&corrections), Err(9));
+    assert_eq!(out_from_row_5(&corrections), Err(9));
 }
 
 #[test]
-fn a_ladder_that_does_not_stop_gives_11_and_leaves_the_cell_of_p5_alone() {
-    // The rows climbed: 5, 2, 8, 4, 11, 0.
+fn a_way_that_does_not_stop_gives_11_and_leaves_the_cell_of_p5_alone() {
+    // The rows of p0 to p5: 5, 2, 8, 4, 11, 0.
     let mut corrections = [0, 0, -3, 0, -6, 3, 0, 0, 1, 0, 0, 5];
-    assert_eq!(climb(&corrections), Err(11));
+    assert_eq!(out_from_row_5(&corrections), Err(11));
     corrections[0] = 10_000_001;
-    assert_eq!(climb(&corrections), Err(11));
+    assert_eq!(out_from_row_5(&corrections), Err(11));
     corrections[10] = -10_000_001;
-    assert_eq!(climb(&corrections), Err(9));
+    assert_eq!(out_from_row_5(&corrections), Err(9));
 }
 
 #[test]

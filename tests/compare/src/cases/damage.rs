@@ -52,7 +52,7 @@ fn random_bytes_before(random: &mut Random, trailer: &Trailer) -> Vec<u8> {
     [nodes, trailer.write()].concat()
 }
 
-/// One or two fields broken; then back is right for the changed trailer at times.
+/// One to three fields broken; then back is right for the changed trailer at times.
 fn with_broken_trailer(random: &mut Random, grid: &Grid) -> Vec<u8> {
     let mut trailer = grid.trailer;
     for _ in 0..random.pick(&[1, 1, 1, 2, 3]) {

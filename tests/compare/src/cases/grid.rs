@@ -108,17 +108,17 @@ fn edge_of_the_check(random: &mut Random) -> Grid {
         200 * steps[1] - i64::from(beyond == 2),
     ];
     let lines = [random.between(2, 6), random.between(2, 6)];
-    let trailer = geometry::placed(random, spacings.map(|it| it.min(100_000_000)), lines);
-    let climb = [
+    let trailer = geometry::placed(random, spacings, lines);
+    let signed_steps = [
         random.sign() * (steps[0] + i64::from(beyond == 3)),
         random.sign() * (steps[1] + i64::from(beyond == 4)),
     ];
     let value = random.below(3) as usize;
-    let nodes = (0..lines[0])
-        .flat_map(|row| (0..lines[1]).map(move |column| row * climb[0] + column * climb[1]))
-        .map(|height| {
+    let places = (0..lines[0]).flat_map(|row| (0..lines[1]).map(move |column| (row, column)));
+    let nodes = places
+        .map(|(row, column)| {
             let mut node = [7, -7, 7];
-            node[value] = height as i32;
+            node[value] = (row * signed_steps[0] + column * signed_steps[1]) as i32;
             node
         })
         .collect();

@@ -12,13 +12,18 @@ use crate::random::Random;
 use crate::{Call, Way};
 use grid::Grid;
 
-/// At every so many cases stands one over the largest grid that document 01 allows.
+/// Among so many cases stands one over the largest grid that document 01 allows.
 const LARGEST_GRID_EVERY: u64 = 100_000;
+
+/// Is the case of this index the one over the largest grid?
+pub fn has_largest_grid(index: u64) -> bool {
+    index % LARGEST_GRID_EVERY == LARGEST_GRID_EVERY / 2
+}
 
 /// The call of one case.
 pub fn call(seed: u64, index: u64) -> Call {
     let mut random = Random::for_case(seed, index);
-    if index % LARGEST_GRID_EVERY == LARGEST_GRID_EVERY / 2 {
+    if has_largest_grid(index) {
         return largest_grid_call(&mut random);
     }
     match random.below(100) {
