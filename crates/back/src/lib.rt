@@ -1,46 +1,27 @@
-// The way back: from a Bessel point and NAP height to ETRS89, for every image, point and height.
-use image::open;
-use lookup::fix_passes;
-use lookup::in_bounds;
+// The way back over an opened image, from a Bessel point in the bounds and a NAP height to ETRS89.
 use lookup::look_up;
 use rules::Answer;
 use rules::Geometry;
 use rules::Lookup;
 use rules::Node;
-use rules::Opened;
 use rules::Point;
 use rules::Position;
-use rules::Refusal;
 ghost use mathlib.Core.Path.{_≡_};
+ghost use mathlib.Core.Bool.{true};
 ghost use Prim.Native.Nat.{_≤_};
 ghost use lib.IntN.{natAbs, _+ℤ_};
-ghost use Rattle.rules.specs.Answers.{values, answerOf};
+ghost use Rattle.rules.specs.Answers.{values};
 ghost use Rattle.rules.specs.Image.{gridOf};
 ghost use Rattle.rules.specs.Questions.{opening};
+ghost use Rattle.rules.specs.Lookup.{inside};
 ghost use Rattle.rules.specs.Ways as ways;
-ghost use Rattle.rules.proofs.Limits.{NodeWithin};
+ghost use Rattle.rules.specs.Limits.{PointWithin, NodeWithin};
 
-// The way back over an image: questions 1 to 6 first.
-pub fn way_back(image: &[u8], q: Point, height: i64) -> Answer
-    ensures { λ r. ⌜ answerOf r ≡ ways.wayBack (now (image .entry)) q height ⌝ }
+// The way back after questions 7 and 8, over an opened image: the lookup's values added.
+pub fn back_from(image: &[u8], g: Geometry, q: Point, height: i64) -> Answer
+    requires { ⌜ (opening (now image) ≡ values g) × (inside g q ≡ true) × (natAbs height ≤ 110000000) ⌝ }
+    ensures { λ r. ⌜ ways.answerOf r ≡ ways.back (ways.sourceOf (gridOf (now (image .entry)) g)) q height ⌝ }
 {
-    match open(image) {
-        Opened::Grid(g) => back_over(image, g, q, height),
-        Opened::Refused(r) => Answer::Refused(r),
-    }
-}
-
-// The way back over an opened image.
-pub fn back_over(image: &[u8], g: Geometry, q: Point, height: i64) -> Answer
-    requires { ⌜ opening (now image) ≡ values g ⌝ }
-    ensures { λ r. ⌜ answerOf r ≡ ways.back (ways.sourceOf (gridOf (now (image .entry)) g)) q height ⌝ }
-{
-    if !fix_passes(q, height, 110_000_000) {
-        return Answer::Refused(Refusal::FixLimits);
-    }
-    if !in_bounds(g, q) {
-        return Answer::Refused(Refusal::OutsideBounds);
-    }
     match look_up(image, g, q) {
         Lookup::Found(n) => Answer::Values(added(q, height, n)),
         Lookup::Refused(r) => Answer::Refused(r),
@@ -49,7 +30,7 @@ pub fn back_over(image: &[u8], g: Geometry, q: Point, height: i64) -> Answer
 
 // A point and height plus the values looked up there, after one evaluation.
 fn added(q: Point, height: i64, n: Node) -> Position
-    requires { ⌜ (natAbs (q .latitude) ≤ 90000000000) × (natAbs (q .longitude) ≤ 180000000000) × (natAbs height ≤ 110000000) × NodeWithin n ⌝ }
+    requires { ⌜ PointWithin q × (natAbs height ≤ 110000000) × NodeWithin n ⌝ }
     ensures { λ r. ⌜ r ≡ ways.position (ways.plus q (record { latitude = n .latitude; longitude = n .longitude })) (height +ℤ n .height) 1 ⌝ }
 {
     let latitude = q.latitude + n.latitude;

@@ -1,8 +1,8 @@
 -- Corners that lie by natural numbers above an integer: the weighted sum and the value lie above it by those of the natural numbers.
 use mathlib.Core.Bool.{Bool, true, false, cond}
-use mathlib.Core.Path.{_≡_, refl, ap, _∙_}
+use mathlib.Core.Path.{_≡_, refl, ap}
 use Prim.Native.Nat.{ℕ, _+_, _-_, _*_, _/_, _≤_, _<_}
-use native.Mathlib.Nat.{sub-add-cancel, mul-div-le, lt-mul-div-succ}
+use native.Mathlib.Nat.{mul-div-le, lt-mul-div-succ}
 use native.Mathlib.Omega.{arith}
 use lib.IntN.{ℤ, pos, natAbs, _+ℤ_, _*ℤ_}
 use lib.Signed.{leZ, _≤ℤ_}
@@ -13,17 +13,8 @@ use Rattle.integers.specs.Machine.{zarith, kept}
 use Rattle.integers.specs.Difference.{up, down, order, Difference, var, lit, _⊕_, _⊗_}
 use Rattle.integers.specs.Rounding.{Round, roundHalfUp, round-is}
 use Rattle.rules.specs.Bilinear.{Square, weighted, bilinear}
+use Rattle.rules.proofs.Weights.{weights}
 use Rattle.bilinear.specs.Mean.{CornersWithin, Below, minimum, leastOf, mix, mean, quotient}
-
--- The weights add up to the cell.
-pub weights : {u v P Q : ℕ} → u ≤ P → v ≤ Q → (P - u) * (Q - v) + (P - u) * v + u * (Q - v) + u * v ≡ P * Q
-weights {u} {v} {P} {Q} h k = corners (P - u) (Q - v) ∙ product (sub-add-cancel h) (sub-add-cancel k)
-  where
-    corners : (a e : ℕ) → a * e + a * v + u * e + u * v ≡ (a + u) * (e + v)
-    corners a e = omega arith
-
-    product : {a e : ℕ} → a ≡ P → e ≡ Q → a * e ≡ P * Q
-    product p q = cc
 
 -- Corner values by how far they lie above b.
 pub record Raised (b : ℤ) (c : Square) (sw se nw ne : ℕ) : Type 0 where

@@ -1,17 +1,13 @@
--- The laws over ℕ behind the code: a mix lies between its values, and the division by P × Q done in two steps loses nothing.
+-- The laws over ℕ behind the code: a mix is at most its larger value, and the division by P × Q done in two steps loses nothing.
 use mathlib.Core.Path.{_≡_, sym, ap, _∙_}
 use Prim.Native.Nat.{ℕ, suc, _+_, _-_, _*_, _/_, _%_, _≤_, _<_, max}
 use native.Mathlib.Nat.{div-add-mod', mod-lt, div-le-self, div-le-of-le-mul, div-lt-iff-lt-mul, le-div-iff-mul-le, mul-add-div-right, mul-div-le, lt-mul-div-succ, mul-pos, mul-le-mul, mul-le-mul-left, mul-le-mul-right, sub-add-cancel, le-of-lt, le-of-suc-le-suc, le-max-left, le-max-right, max-le}
 use native.Mathlib.Omega.{arith}
 use Rattle.bilinear.specs.Mean.{Spacing, InCell, mix, quotient, mean, Mixable, Rows}
 
--- between the two values
+-- at most the larger value
 pub mix-le : {a b w whole : ℕ} (M : ℕ) → w ≤ whole → a ≤ M → b ≤ M → mix a b w whole ≤ whole * M
 mix-le {a} {b} {w} {whole} M h p q =
-    omega (arith, mul-le-mul-left (whole - w) p, mul-le-mul-left w q, ap (λ (x : ℕ). x * M) (sub-add-cancel h))
-
-pub mix-ge : {a b w whole : ℕ} (M : ℕ) → w ≤ whole → M ≤ a → M ≤ b → whole * M ≤ mix a b w whole
-mix-ge {a} {b} {w} {whole} M h p q =
     omega (arith, mul-le-mul-left (whole - w) p, mul-le-mul-left w q, ap (λ (x : ℕ). x * M) (sub-add-cancel h))
 
 -- Numbers up to 100,000,000 can be mixed.
@@ -29,21 +25,15 @@ pub area-most : {p q : ℕ} → Spacing p → Spacing q → p * q ≤ 1000000000
 area-most h k = mul-le-mul (h .most) (k .most)
 
 pub cell-area : {u v p q : ℕ} → InCell u v p q → 0 < p * q
-cell-area cell = area-least (cell .height) (cell .width)
+cell-area cell = area-least (cell .latitude-spacing) (cell .longitude-spacing)
 
--- the rounded mean lies between the corner values
+-- the rounded mean is at most the largest corner value
 module _ {u v P Q : ℕ} (h : u ≤ P) (k : v ≤ Q) (pq : 0 < P * Q) where
   pub mean-le : {sw se nw ne : ℕ} (M : ℕ) → sw ≤ M → se ≤ M → nw ≤ M → ne ≤ M → mean sw se nw ne u v P Q ≤ M
   unfolding quotient
   mean-le {sw} {se} {nw} {ne} M a b c d =
       let below : mix (mix sw se v Q) (mix nw ne v Q) u P ≤ P * (Q * M) = mix-le (Q * M) h (mix-le M k a b) (mix-le M k c d) in
       le-of-suc-le-suc (div-lt-iff-lt-mul {k = 2 * (P * Q)} {y = suc M} (omega arith) .1 (omega arith))
-
-  pub mean-ge : {sw se nw ne : ℕ} (M : ℕ) → M ≤ sw → M ≤ se → M ≤ nw → M ≤ ne → M ≤ mean sw se nw ne u v P Q
-  unfolding quotient
-  mean-ge {sw} {se} {nw} {ne} M a b c d =
-      let above : P * (Q * M) ≤ mix (mix sw se v Q) (mix nw ne v Q) u P = mix-ge (Q * M) h (mix-ge M k a b) (mix-ge M k c d) in
-      le-div-iff-mul-le {k = 2 * (P * Q)} (omega arith) .1 (omega arith)
 
 -- what the numbers are at most in the division of two rows: t is the mix of the rows divided by q, and left that of what q leaves of them
 pub record Small (p q t left : ℕ) : Type 0 where
@@ -60,20 +50,20 @@ module _ {s n u p q : ℕ} (r : Rows s n u p q) where
   north-row = div-le-of-le-mul q (r .north-most)
 
   pub south-left : s % q < q
-  south-left = mod-lt s (r .width .least)
+  south-left = mod-lt s (r .longitude-spacing .least)
 
   pub north-left : n % q < q
-  north-left = mod-lt n (r .width .least)
+  north-left = mod-lt n (r .longitude-spacing .least)
 
   pub small : {t left : ℕ} → t ≡ mix (s / q) (n / q) u p → left ≡ mix (s % q) (n % q) u p → Small p q t left
   small {t} {left} et el =
       record {
-        area-least = area-least (r .height) (r .width);
-        area-most = area-most (r .height) (r .width);
+        area-least = area-least (r .latitude-spacing) (r .longitude-spacing);
+        area-most = area-most (r .latitude-spacing) (r .longitude-spacing);
         t-most = omega (arith, div-le-self t p, mix-le 20000000 (r .north) south-row north-row);
         rest-most =
             omega
-            (arith, mul-le-mul-right q (le-of-lt (mod-lt t (r .height .least))), mix-le q (r .north) (le-of-lt south-left) (le-of-lt north-left));
+            (arith, mul-le-mul-right q (le-of-lt (mod-lt t (r .latitude-spacing .least))), mix-le q (r .north) (le-of-lt south-left) (le-of-lt north-left));
       }
 
 -- nothing is lost

@@ -21,8 +21,8 @@ pub record Spacing (P : ℕ) : Type 0 where
 pub record InCell (u v P Q : ℕ) : Type 0 where
   pub north : u ≤ P
   pub east : v ≤ Q
-  pub height : Spacing P
-  pub width : Spacing Q
+  pub latitude-spacing : Spacing P
+  pub longitude-spacing : Spacing Q
 
 -- The lesser of two values.
 abbrev pub minimum : ℤ → ℤ → ℤ
@@ -54,8 +54,8 @@ pub record Rows (s n u P Q : ℕ) : Type 0 where
   pub south-most : s ≤ Q * 20000000
   pub north-most : n ≤ Q * 20000000
   pub north : u ≤ P
-  pub height : Spacing P
-  pub width : Spacing Q
+  pub latitude-spacing : Spacing P
+  pub longitude-spacing : Spacing Q
 
 -- Natural corner values at most `limit`.
 pub record Below (limit sw se nw ne : ℕ) : Type 0 where

@@ -1,39 +1,30 @@
 // The bilinear value of document 01, exact in 64 bits, and the cell of a point along an axis.
+use numbers::larger;
+use numbers::smaller;
 use rules::Axis;
 ghost use mathlib.Core.Path.{_≡_};
-ghost use Prim.Native.Nat.{_+_, _*_, _/_, _≤_, _<_, min, max};
+ghost use Prim.Native.Nat.{_+_, _*_, _/_, _≤_, _<_};
 ghost use lib.IntN.{pos, natAbs, _+ℤ_};
 ghost use lib.Signed.{_≤ℤ_};
-ghost use Rattle.rules.specs.Questions.{Sized};
-ghost use Rattle.rules.specs.Bilinear.{cellOf, partOf, squareOf, bilinear};
+ghost use Rattle.rules.specs.Limits.{Sized};
+ghost use Rattle.rules.specs.Bilinear.{squareOf, bilinear};
+ghost use Rattle.bilinear.specs.Place.{placeOn};
 ghost use Rattle.bilinear.specs.Mean.{CornersWithin, InCell, minimum, leastOf, mix, quotient, mean, Mixable, Spacing, Rows, Below};
 
 // A cell's index along one axis, and a point's part of the cell.
-pub struct Place {
+pub struct AxisPlace {
     pub cell: u64,
     pub part: u64,
 }
 
 // The cell of an offset from an axis's start. On the far bound the last cell is used, with the whole spacing as part.
-pub fn locate(a: Axis, x: u64) -> Place
+pub fn locate(a: Axis, x: u64) -> AxisPlace
     requires { ⌜ Sized a ⌝ }
-    ensures { λ r. ⌜ (r .cell ≡ cellOf a x) × (r .part ≡ partOf a x) ⌝ }
+    ensures { λ r. ⌜ r ≡ placeOn a x ⌝ }
 {
     let cell = smaller(x / a.spacing, a.count - 2);
     let part = x - cell * a.spacing;
-    Place { cell, part }
-}
-
-fn smaller(a: u64, b: u64) -> u64
-    ensures { λ r. ⌜ r ≡ min a b ⌝ }
-{
-    if a < b { a } else { b }
-}
-
-fn larger(a: u64, b: u64) -> u64
-    ensures { λ r. ⌜ r ≡ max a b ⌝ }
-{
-    if a < b { b } else { a }
+    AxisPlace { cell, part }
 }
 
 // The bilinear value of four corner values, south row first, at u from the south side and v from the west side of a cell of p by q.
@@ -89,8 +80,8 @@ fn rounded_mean(sw: u64, se: u64, nw: u64, ne: u64, u: u64, v: u64, p: u64, q: u
     requires { ⌜ Below 20000000 sw se nw ne × InCell u v p q ⌝ }
     ensures { λ r. ⌜ r ≡ mean sw se nw ne u v p q ⌝ }
 {
-    let south = blend(sw, se, v, q);
-    let north = blend(nw, ne, v, q);
+    let south = mix(sw, se, v, q);
+    let north = mix(nw, ne, v, q);
     if p * (larger(south, north) / 1_048_576 + 1) <= 17_585_000_000_000 {
         return divided_at_once(south, north, u, p, q);
     }
@@ -98,7 +89,7 @@ fn rounded_mean(sw: u64, se: u64, nw: u64, ne: u64, u: u64, v: u64, p: u64, q: u
 }
 
 // a and b weighted by the parts whole - w and w.
-fn blend(a: u64, b: u64, w: u64, whole: u64) -> u64
+fn mix(a: u64, b: u64, w: u64, whole: u64) -> u64
     requires { ⌜ Mixable a b w whole ⌝ }
     ensures { λ r. ⌜ r ≡ mix a b w whole ⌝ }
 {
@@ -111,7 +102,7 @@ fn divided_at_once(s: u64, n: u64, u: u64, p: u64, q: u64) -> u64
     ensures { λ r. ⌜ r ≡ quotient s n u p q ⌝ }
 {
     let area = p * q;
-    (blend(s, n, u, p) + area / 2) / area
+    (mix(s, n, u, p) + area / 2) / area
 }
 
 // The same for any rows, where the mix itself may not fit 64 bits: each row is divided by q first, then the mix of those quotients by p; rest
@@ -120,8 +111,8 @@ fn divided(s: u64, n: u64, u: u64, p: u64, q: u64) -> u64
     requires { ⌜ Rows s n u p q ⌝ }
     ensures { λ r. ⌜ r ≡ quotient s n u p q ⌝ }
 {
-    let t = blend(s / q, n / q, u, p);
-    let left = blend(s % q, n % q, u, p);
+    let t = mix(s / q, n / q, u, p);
+    let left = mix(s % q, n % q, u, p);
     let rest = t % p * q + left;
     t / p + rounded(rest, p * q)
 }

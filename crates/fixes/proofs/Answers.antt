@@ -11,7 +11,7 @@ use Rattle.rules.specs.declared.Point.{Point}
 use Rattle.rules.specs.declared.Position.{Position}
 use Rattle.rules.specs.Answers.{Outcome, values, number}
 use Rattle.rules.specs.Lists.{fiveOf, answersOf}
-use Rattle.fixes.specs.Conversion.{pointAt, heightAt}
+use Rattle.fixes.specs.Fix.{pointAt, heightAt}
 
 five-long : (a : Outcome Position) → length (fiveOf a) ≡ 5
 five-long (values p) = refl
@@ -23,24 +23,24 @@ front l v rest post n h =
     rw (append-assoc v rest post, ← append-assoc (take n l) v (rest ++ post))
     (take-at (take n l ++ v) (rest ++ post) (n + length v) (rw (length-append, length-take-le)))
 
-module _ (convert : Point → ℤ → Outcome Position) where
+module _ (single : Point → ℤ → Outcome Position) where
   -- Five numbers for each fix.
-  pub answers-long : (fixes : List ℤ) (n : ℕ) → length fixes ≡ 3 * n → length (answersOf convert fixes) ≡ 5 * n
+  pub answers-long : (fixes : List ℤ) (n : ℕ) → length fixes ≡ 3 * n → length (answersOf single fixes) ≡ 5 * n
   answers-long [] n h = omega arith
   answers-long (_ ∷ []) n h = absurd (omega arith)
   answers-long (_ ∷ _ ∷ []) n h = absurd (omega arith)
   answers-long (x ∷ y ∷ z ∷ rest) n h =
-      rw length-append (omega (arith, five-long (convert (pointAt (x ∷ y ∷ []) 0) z), answers-long rest (n - 1) (omega arith)))
+      rw length-append (omega (arith, five-long (single (pointAt (x ∷ y ∷ []) 0) z), answers-long rest (n - 1) (omega arith)))
 
   -- From 5 × k on stand the five numbers of the conversion of fix k.
   pub answers-at : (fixes : List ℤ) (k : ℕ) → 3 * k + 2 < length fixes
-      → take 5 (drop (5 * k) (answersOf convert fixes)) ≡ fiveOf (convert (pointAt fixes k) (heightAt fixes k))
+      → take 5 (drop (5 * k) (answersOf single fixes)) ≡ fiveOf (single (pointAt fixes k) (heightAt fixes k))
   answers-at [] k h = absurd (omega arith)
   answers-at (_ ∷ []) k h = absurd (omega arith)
   answers-at (_ ∷ _ ∷ []) k h = absurd (omega arith)
-  answers-at (x ∷ y ∷ z ∷ rest) zero h = let a = convert (pointAt (x ∷ y ∷ []) 0) z in take-at (fiveOf a) (answersOf convert rest) 5 (five-long a)
+  answers-at (x ∷ y ∷ z ∷ rest) zero h = let a = single (pointAt (x ∷ y ∷ []) 0) z in take-at (fiveOf a) (answersOf single rest) 5 (five-long a)
   answers-at (x ∷ y ∷ z ∷ rest) (suc k) h =
-      let a = convert (pointAt (x ∷ y ∷ []) 0) z in
+      let a = single (pointAt (x ∷ y ∷ []) 0) z in
       let e : 5 * suc k ≡ length (fiveOf a) + 5 * k = omega (arith, five-long a) in
       let i : 3 * suc k ≡ suc (suc (suc (3 * k))) = omega arith in
       let i₁ : 3 * suc k + 1 ≡ suc (suc (suc (3 * k + 1))) = omega arith in
@@ -50,7 +50,7 @@ module _ (convert : Point → ℤ → Outcome Position) where
   module _ (fixes : List ℤ) where
     -- The first k answers are written.
     pub Written : List ℤ → ℕ → Type 0
-    Written answers k = take (5 * k) answers ≡ take (5 * k) (answersOf convert fixes)
+    Written answers k = take (5 * k) answers ≡ take (5 * k) (answersOf single fixes)
 
     pub written-none : (answers : List ℤ) (k : ℕ) → k ≡ 0 → Written answers k
     unfolding Written
@@ -58,7 +58,7 @@ module _ (convert : Point → ℤ → Outcome Position) where
 
     -- One more, at the front of the part that was lent on.
     pub written-more : (answers part rest post : List ℤ) (k : ℕ) (a : Outcome Position) → 3 * k + 2 < length fixes → 5 * k ≤ length answers
-        → part ≡ fiveOf a ++ rest → a ≡ convert (pointAt fixes k) (heightAt fixes k)
+        → part ≡ fiveOf a ++ rest → a ≡ single (pointAt fixes k) (heightAt fixes k)
         → Written answers k → Written (take (5 * k) answers ++ (part ++ post)) (k + 1)
     unfolding Written
     written-more answers part rest post k a hf ha e r w =
@@ -66,7 +66,7 @@ module _ (convert : Point → ℤ → Outcome Position) where
         rw (n, e, front answers (fiveOf a) rest post (5 * k) ha, five-long a, take-add, answers-at fixes k hf, ← r, w)
 
     pub written-all : (answers : List ℤ) (n : ℕ) → length fixes ≡ 3 * n → length answers ≡ 5 * n
-        → Written answers n → answers ≡ answersOf convert fixes
+        → Written answers n → answers ≡ answersOf single fixes
     unfolding Written
     written-all answers n hf ha w =
-        sym (take-all (5 * n) answers (omega arith)) ∙ w ∙ take-all (5 * n) (answersOf convert fixes) (omega (arith, answers-long fixes n hf))
+        sym (take-all (5 * n) answers (omega arith)) ∙ w ∙ take-all (5 * n) (answersOf single fixes) (omega (arith, answers-long fixes n hf))

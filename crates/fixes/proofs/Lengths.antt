@@ -5,7 +5,7 @@ use Prim.Native.Nat.{ℕ, _*_, _/_}
 use native.Mathlib.Omega.{arith}
 use lib.Dec.{eqb}
 use borrow.Author.Tests.{eq-eqb, eqb-true}
-use Rattle.integers.specs.Tests.{and-left, and-right, and-both}
+use Rattle.integers.specs.Booleans.{and-left, and-right, and-both}
 use Rattle.rules.specs.Lists.{question14}
 
 pub same-n : (fixes answers : ℕ) → question14 fixes answers ≡ true → (fixes ≡ 3 * (fixes / 3)) × (answers ≡ 5 * (fixes / 3))

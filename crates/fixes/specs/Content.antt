@@ -8,7 +8,7 @@ use Rattle.rules.specs.declared.Point.{Point}
 use Rattle.rules.specs.declared.Position.{Position}
 use Rattle.rules.specs.Answers.{Outcome}
 use Rattle.rules.specs.Lists.{fiveOf}
-use Rattle.fixes.specs.Conversion.{pointAt, heightAt}
+use Rattle.fixes.specs.Fix.{pointAt, heightAt}
 
 -- The list l has the answers' length, and at 5 × k stand the five numbers of the single conversion of fix k.
 pub record Content (single : Point → ℤ → Outcome Position) (fixes answers l : List ℤ) : Type 0 where

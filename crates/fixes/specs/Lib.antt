@@ -1,3 +1,3 @@
 -- What the contracts of the lists cite, and what they mean for each answer.
-pub mod Conversion
+pub mod Fix
 pub mod Content

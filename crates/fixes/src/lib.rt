@@ -1,52 +1,45 @@
 // Lists of fixes: one call converts all its fixes the same way, out or back, into the answer list that is lent to it.
-use back::back_over;
 use image::open;
 use numbers::refusal_number;
-use out::out_over;
 use rules::Answer;
 use rules::Geometry;
 use rules::Opened;
 use rules::Point;
 use rules::Refusal;
+use rules::Way;
+use ways::convert_over;
 ghost use mathlib.Core.Bool.{true};
 ghost use mathlib.Core.List.{_++_, _∷_, []};
 ghost use mathlib.Core.Path.{_≡_};
 ghost use Prim.Native.Nat.{_+_, _*_, _≤_, _<_};
-ghost use lib.IntN.{pos};
 ghost use lib.ListN.{length, drop};
-ghost use Rattle.rules.specs.Answers.{values, answerOf};
+ghost use Rattle.rules.specs.Answers.{values, statusOf, after};
 ghost use Rattle.rules.specs.Image.{gridOf};
 ghost use Rattle.rules.specs.Questions.{opening};
-ghost use Rattle.rules.specs.Ways.{sourceOf};
-ghost use Rattle.rules.specs.Lists.{fiveOf, answersOf, question14, convertList, listOut, listBack, listAfter, listNumber};
-ghost use Rattle.fixes.specs.Conversion.{wayOf, pointAt, heightAt, CountFits};
-
-// The way that all fixes of a list take.
-pub enum Way {
-    Out,
-    Back,
-}
+ghost use Rattle.rules.specs.Ways.{sourceOf, convertOver, answerOf};
+ghost use Rattle.rules.specs.Lists.{fiveOf, answersOf, question14, convertList, listOut, listBack};
+ghost use Rattle.fixes.specs.Fix.{pointAt, heightAt, CountAtMostFive};
 
 // All fixes out: 0 with every answer written, or the number of the question that left the answer list unchanged.
 pub fn list_out(image: &[u8], fixes: &[i64], answers: &mut [i64]) -> i64
-    ensures number { λ r. ⌜ r ≡ pos (listNumber (listOut (now (image .entry)) (now (fixes .entry)) (now (answers .entry)))) ⌝ }
-    ensures answers { λ _. ⌜ now (answers .exit) ≡ listAfter (listOut (now (image .entry)) (now (fixes .entry)) (now (answers .entry))) (now (answers .entry)) ⌝ }
+    ensures number { λ r. ⌜ r ≡ statusOf (listOut (now (image .entry)) (now (fixes .entry)) (now (answers .entry))) ⌝ }
+    ensures answers { λ _. ⌜ now (answers .exit) ≡ after (listOut (now (image .entry)) (now (fixes .entry)) (now (answers .entry))) (now (answers .entry)) ⌝ }
 {
     convert_list(Way::Out, image, fixes, answers)
 }
 
 // All fixes back, likewise.
 pub fn list_back(image: &[u8], fixes: &[i64], answers: &mut [i64]) -> i64
-    ensures number { λ r. ⌜ r ≡ pos (listNumber (listBack (now (image .entry)) (now (fixes .entry)) (now (answers .entry)))) ⌝ }
-    ensures answers { λ _. ⌜ now (answers .exit) ≡ listAfter (listBack (now (image .entry)) (now (fixes .entry)) (now (answers .entry))) (now (answers .entry)) ⌝ }
+    ensures number { λ r. ⌜ r ≡ statusOf (listBack (now (image .entry)) (now (fixes .entry)) (now (answers .entry))) ⌝ }
+    ensures answers { λ _. ⌜ now (answers .exit) ≡ after (listBack (now (image .entry)) (now (fixes .entry)) (now (answers .entry))) (now (answers .entry)) ⌝ }
 {
     convert_list(Way::Back, image, fixes, answers)
 }
 
 // Questions 1 to 6, then 14, then each fix in turn.
 fn convert_list(way: Way, image: &[u8], fixes: &[i64], answers: &mut [i64]) -> i64
-    ensures number { λ r. ⌜ r ≡ pos (listNumber (convertList (wayOf way) (now (image .entry)) (now (fixes .entry)) (now (answers .entry)))) ⌝ }
-    ensures answers { λ _. ⌜ now (answers .exit) ≡ listAfter (convertList (wayOf way) (now (image .entry)) (now (fixes .entry)) (now (answers .entry))) (now (answers .entry)) ⌝ }
+    ensures number { λ r. ⌜ r ≡ statusOf (convertList way (now (image .entry)) (now (fixes .entry)) (now (answers .entry))) ⌝ }
+    ensures answers { λ _. ⌜ now (answers .exit) ≡ after (convertList way (now (image .entry)) (now (fixes .entry)) (now (answers .entry))) (now (answers .entry)) ⌝ }
 {
     match open(image) {
         Opened::Grid(g) => {
@@ -75,7 +68,7 @@ fn lengths_pass(fixes: &[i64], answers: &[i64]) -> bool
 // Converts every fix. The rest of the answer list, from 5 × k onward, is lent on to the writer of the answer to fix k.
 fn convert_all(way: Way, image: &[u8], g: Geometry, fixes: &[i64], answers: &mut [i64])
     requires { ⌜ (opening (now image) ≡ values g) × (question14 (length (now fixes)) (length (now answers)) ≡ true) ⌝ }
-    ensures { λ _. ⌜ now (answers .exit) ≡ answersOf (wayOf way (sourceOf (gridOf (now (image .entry)) g))) (now (fixes .entry)) ⌝ }
+    ensures { λ _. ⌜ now (answers .exit) ≡ answersOf (convertOver way (sourceOf (gridOf (now (image .entry)) g))) (now (fixes .entry)) ⌝ }
 {
     let n = fixes.len() / 3;
     let mut k = 0;
@@ -90,7 +83,7 @@ fn convert_all(way: Way, image: &[u8], g: Geometry, fixes: &[i64], answers: &mut
 // The answer to fix k, over an opened image.
 fn convert_fix(way: Way, image: &[u8], g: Geometry, fixes: &[i64], k: usize) -> Answer
     requires { ⌜ (opening (now image) ≡ values g) × (3 * k + 2 < length (now fixes)) ⌝ }
-    ensures { λ r. ⌜ answerOf r ≡ wayOf way (sourceOf (gridOf (now (image .entry)) g)) (pointAt (now (fixes .entry)) k) (heightAt (now (fixes .entry)) k) ⌝ }
+    ensures { λ r. ⌜ answerOf r ≡ convertOver way (sourceOf (gridOf (now (image .entry)) g)) (pointAt (now (fixes .entry)) k) (heightAt (now (fixes .entry)) k) ⌝ }
 {
     let at = 3 * k;
     let latitude = fixes[at];
@@ -100,15 +93,12 @@ fn convert_fix(way: Way, image: &[u8], g: Geometry, fixes: &[i64], k: usize) -> 
         latitude,
         longitude,
     };
-    match way {
-        Way::Out => out_over(image, g, p, height),
-        Way::Back => back_over(image, g, p, height),
-    }
+    convert_over(way, image, g, p, height)
 }
 
 // Writes an answer at the front of the rest of the answer list: its values and 0, or four zeros and the number.
 fn write_answer(rest: &mut [i64], a: Answer)
-    requires { ⌜ (5 ≤ length (now rest)) × CountFits (answerOf a) ⌝ }
+    requires { ⌜ (5 ≤ length (now rest)) × CountAtMostFive (answerOf a) ⌝ }
     ensures { λ _. ⌜ now (rest .exit) ≡ fiveOf (answerOf a) ++ drop 5 (now (rest .entry)) ⌝ }
 {
     match a {

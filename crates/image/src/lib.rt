@@ -13,9 +13,10 @@ ghost use mathlib.Core.Bool.{true};
 ghost use Prim.Native.Nat.{_≤_};
 ghost use lib.IntN.{natAbs};
 ghost use lib.ListN.{length};
-ghost use Rattle.rules.specs.Answers.{openedOf};
+ghost use Rattle.rules.specs.Units.{degrees};
 ghost use Rattle.rules.specs.Image.{trailerOf, farBound};
-ghost use Rattle.rules.specs.Questions.{question2, question3, question4, boundsWithin, question5, question6, judge, opening, Sized};
+ghost use Rattle.rules.specs.Questions.{question2, question3, question4, boundsWithin, question5, question6, judge, opening, openedOf};
+ghost use Rattle.rules.specs.Limits.{Sized};
 
 // Questions 1 to 6, of any image.
 pub fn open(image: &[u8]) -> Opened
@@ -130,7 +131,7 @@ fn bounds_pass(g: Geometry) -> bool
 
 // Both bounds of an axis are within the limit. The first is tested before the second is computed, so the sum fits.
 fn bounds_within(limit: u64, a: Axis) -> bool
-    requires { ⌜ (limit ≤ 180000000000) × Sized a ⌝ }
+    requires { ⌜ (limit ≤ degrees 180) × Sized a ⌝ }
     ensures { λ r. ⌜ r ≡ boundsWithin limit a ⌝ }
 {
     if is_within(a.start, limit) {
@@ -142,7 +143,7 @@ fn bounds_within(limit: u64, a: Axis) -> bool
 
 // The bound at the other end of an axis.
 pub fn far_bound(a: Axis) -> i64
-    requires { ⌜ (natAbs (a .start) ≤ 180000000000) × Sized a ⌝ }
+    requires { ⌜ (natAbs (a .start) ≤ degrees 180) × Sized a ⌝ }
     ensures { λ r. ⌜ r ≡ farBound a ⌝ }
 {
     a.start + ((a.count - 1) * a.spacing) as i64

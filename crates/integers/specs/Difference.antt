@@ -22,7 +22,7 @@ sub-by : (a b : ℕ) (t : Bool) → (T t → a < b) → (T (not t) → b ≤ a)
 sub-by a b true y n = let h : a < b = y tt in omega arith
 sub-by a b false y n = let h : b ≤ a = n tt in omega arith
 
-pub subℕ-parts : (a b : ℕ) → up (subℕ a b) + b ≡ a + down (subℕ a b)
+subℕ-parts : (a b : ℕ) → up (subℕ a b) + b ≡ a + down (subℕ a b)
 subℕ-parts a b = sub-by a b (ltb a b) (ltb→lt a b) (nltb→le a b)
 
 pub neg-up : (z : ℤ) → up (negℤ z) ≡ down z
@@ -108,10 +108,6 @@ var z = record { hi = up z; lo = down z; is = refl }
 -- a natural n, as `pos n`
 abbrev pub lit : (n : ℕ) → Difference (pos n)
 lit n = record { hi = n; lo = 0; is = omega arith }
-
--- a difference of two naturals
-abbrev pub less : (a b : ℕ) → Difference (subℕ a b)
-less a b = record { hi = a; lo = b; is = subℕ-parts a b }
 
 abbrev pub minus : {x : ℤ} → Difference x → Difference (negℤ x)
 minus {x} d = record { hi = d .lo; lo = d .hi; is = omega (arith, neg-up x, neg-down x, d .is) }

@@ -87,20 +87,20 @@ pub ruleset zarith = (arith, order, sfits-parts, parts-sfits, ltZ-true, ltZ-fals
 
 -- ---- what the machine reads back from bits, as difference forms
 -- of the bits of a number that fits, the number
-abbrev pub back : {w : Width} {z : ℤ} → SFits w z → Difference z → Difference (toZ w (ofZ w z))
-back {w} {z} f d = record { hi = d .hi; lo = d .lo; is = subst (λ (y : ℤ). up y + d .lo ≡ d .hi + down y) (sym (toZ-ofZ f)) (d .is) }
+abbrev pub read-back : {w : Width} {z : ℤ} → SFits w z → Difference z → Difference (toZ w (ofZ w z))
+read-back {w} {z} f d = record { hi = d .hi; lo = d .lo; is = subst (λ (y : ℤ). up y + d .lo ≡ d .hi + down y) (sym (toZ-ofZ f)) (d .is) }
 
--- the same of a parameter: `read (c .fits .x)`
-abbrev pub read : {w : Width} {z : ℤ} → SFits w z → Difference (toZ w (ofZ w z))
-read {w} {z} f = back f (var z)
+-- the same of a parameter: `read-parameter (c .fits .x)`
+abbrev pub read-parameter : {w : Width} {z : ℤ} → SFits w z → Difference (toZ w (ofZ w z))
+read-parameter {w} {z} f = read-back f (var z)
 
--- the same of the signed result of a call: `got w64 (c .f .result) (c .f .ok)`
-abbrev pub got : (w : Width) (z : ℤ) → mag z < 2 ^ hbits w → Difference (toZ w (ofZ w z))
-got w z h = back (record { sfits = h }) (var z)
+-- the same of the signed result of a call: `read-result w64 (c .f .result) (c .f .ok)`
+abbrev pub read-result : (w : Width) (z : ℤ) → mag z < 2 ^ hbits w → Difference (toZ w (ofZ w z))
+read-result w z h = read-back (record { sfits = h }) (var z)
 
 -- an unsigned number in the lower half, cast to a signed type
-abbrev pub small : (w : Width) (n : ℕ) → n < 2 ^ hbits w → Difference (toZ w n)
-small w n h = record { hi = n; lo = 0; is = subst (λ (y : ℤ). up y + 0 ≡ n + down y) (sym (toZ-pos w h)) refl }
+abbrev pub read-cast : (w : Width) (n : ℕ) → n < 2 ^ hbits w → Difference (toZ w n)
+read-cast w n h = record { hi = n; lo = 0; is = subst (λ (y : ℤ). up y + 0 ≡ n + down y) (sym (toZ-pos w h)) refl }
 
 -- A test of two signed numbers that fit, as the code leaves it, on the numbers themselves.
 pub plain-le : {w : Width} {x y : ℤ} → SFits w x → SFits w y → {b : Bool} → leZ (toZ w (ofZ w x)) (toZ w (ofZ w y)) ≡ b → leZ x y ≡ b

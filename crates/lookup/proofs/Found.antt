@@ -9,33 +9,33 @@ use native.Mathlib.Omega.{arith}
 use lib.Dec.{leb}
 use lib.IntN.{ℤ, natAbs}
 use Rattle.integers.specs.Machine.{zarith}
-use Rattle.integers.specs.Tests.{and-left, and-right}
+use Rattle.integers.specs.Booleans.{and-left, and-right}
 use Rattle.rules.specs.declared.Axis.{Axis}
 use Rattle.rules.specs.declared.Geometry.{Geometry}
 use Rattle.rules.specs.declared.Point.{Point}
 use Rattle.rules.specs.declared.Node.{Node}
 use Rattle.rules.specs.Answers.{values, ask}
 use Rattle.rules.specs.Image.{Grid}
-use Rattle.rules.specs.Questions.{Sized, Open}
-use Rattle.rules.specs.Bilinear.{offset, partOf, squareOf, bilinear, valueAt}
+use Rattle.rules.specs.Limits.{Sized, Open, NodeWithin}
+use Rattle.rules.specs.Bilinear.{offset, partOf, cellFor, squareOf, bilinear, valueAt}
 use Rattle.rules.specs.Lookup.{inside, nodePasses, cellPasses, question9, lookup}
 use Rattle.rules.specs.Ways.{sourceOf}
 use Rattle.rules.proofs.Cells.{offset-most, part-most, cell-start, cell-most, cell-is, on-latitude, on-longitude}
-use Rattle.rules.proofs.Opening.{asked, asked-then}
-use Rattle.rules.proofs.Limits.{NodeWithin, node-within}
+use Rattle.rules.proofs.Answers.{asked, asked-then}
+use Rattle.rules.proofs.Limits.{node-within}
+use Rattle.rules.proofs.Weights.{value-within}
 use Rattle.bilinear.specs.Mean.{CornersWithin, InCell}
-use Rattle.bilinear.proofs.Laws.{value-within}
-use Rattle.nodes.specs.Cell.{cellAt, allPass, valueOf, square}
+use Rattle.nodes.specs.Cell.{cellAt, cornersPass, valueOf, square}
 use Rattle.nodes.specs.declared.Value.{Value}
 use Rattle.nodes.specs.declared.Value.the-variants as value
 use Rattle.nodes.specs.declared.Cell.{Cell}
 use Rattle.lookup.specs.declared.HeldCell.{HeldCell}
-use Rattle.lookup.specs.declared.Offsets.{Offsets}
-use Rattle.lookup.specs.Values.{cellFor, sideFor, heldAt, Bounded, partsIn, reaches, liesIn, Holds, valueIn, valuesIn, correctionsIn, heightIn}
+use Rattle.lookup.specs.declared.PlaceInCell.{PlaceInCell}
+use Rattle.lookup.specs.Values.{sideFor, heldAt, Bounded, placeIn, reaches, liesIn, Holds, valueIn, valuesIn, correctionsIn, heightIn}
 
 -- The lookup puts question 9 to the corners of the point's cell, and weighs their values.
 lookup-is : (g : Grid) (p : Point) → let h = heldAt g p in lookup g p ≡ ask (h .passes) 9 (values (valuesIn h (g .geometry) p))
-unfolding lookup question9 cellPasses allPass cellAt valueAt partOf heldAt valueIn valuesIn correctionsIn heightIn
+unfolding lookup question9 cellPasses cornersPass cellAt valueAt partOf heldAt valueIn valuesIn correctionsIn heightIn
 lookup-is g p = refl
 
 -- The same of the held cell h around the point, and of what the lookup gives the two ways.
@@ -65,11 +65,11 @@ cell-holds g p o i =
       bounded = bounded o i;
       south = cell-start a (offset a (p .latitude));
       west = cell-start b (offset b (p .longitude));
-      parts = record {
+      place = record {
         north = part-most a (offset a (p .latitude)) (o .latitude .sized) (offset-most a (p .latitude) (on-latitude (g .geometry) p i));
         east = part-most b (offset b (p .longitude)) (o .longitude .sized) (offset-most b (p .longitude) (on-longitude (g .geometry) p i));
-        height = omega arith;
-        width = omega arith;
+        latitude-spacing = omega arith;
+        longitude-spacing = omega arith;
       };
       asked = refl;
     }
@@ -95,8 +95,8 @@ kept-cell g r p o h =
     rw (n, e)
 
 -- Corners that pass question 9 are within the limit of each of the three values.
-corners-within : {M : ℕ} (f : Node → ℤ) → ((n : Node) → NodeWithin n → natAbs (f n) ≤ M) → (c : Cell) → allPass c ≡ true → CornersWithin M (squareOf (square f c))
-unfolding allPass
+corners-within : {M : ℕ} (f : Node → ℤ) → ((n : Node) → NodeWithin n → natAbs (f n) ≤ M) → (c : Cell) → cornersPass c ≡ true → CornersWithin M (squareOf (square f c))
+unfolding cornersPass
 corners-within f small c h =
     let sw = nodePasses (c .southwest) in
     let se = nodePasses (c .southeast) in
@@ -116,30 +116,33 @@ value-small value.LatitudeCorrection n w = w .latitude
 value-small value.LongitudeCorrection n w = w .longitude
 value-small value.Height n w = omega (arith, w .height)
 
--- What `weigh` asks of one value's square, and of the point's parts, in a held cell that passes question 9.
-pub weighable : (v : Value) {h : HeldCell} {g : Geometry} {p : Point} {l : List (List ℤ)} {o : Offsets} → h .passes ≡ true → Holds h g p → l ≡ square (valueOf v) (h .corners) → o ≡ partsIn h g p
-    → CornersWithin 10000000 (squareOf l) × InCell (o .north) (o .east) (g .latitude .spacing) (g .longitude .spacing)
-weighable v {h} t k s o = (rw s (corners-within (valueOf v) (value-small v) (h .corners) (sym (k .asked) ∙ t)), rw o (k .parts))
+-- What `weigh` asks of one value's square, and of the point's place, in a held cell that passes question 9.
+pub weighable : (v : Value) {h : HeldCell} {g : Geometry} {p : Point} {l : List (List ℤ)} {at : PlaceInCell} → h .passes ≡ true → Holds h g p → l ≡ square (valueOf v) (h .corners) → at ≡ placeIn h g p
+    → CornersWithin 10000000 (squareOf l) × InCell (at .u) (at .v) (at .p) (at .q)
+weighable v {h} t k s e = (rw s (corners-within (valueOf v) (value-small v) (h .corners) (sym (k .asked) ∙ t)), rw e (k .place))
 
 -- What `weigh` ensures of them is the value there.
-pub weighed-is : (v : Value) (h : HeldCell) (g : Geometry) (p : Point) {l : List (List ℤ)} {o : Offsets} {z : ℤ} → z ≡ bilinear (squareOf l) (o .north) (o .east) (g .latitude .spacing) (g .longitude .spacing)
-    → l ≡ square (valueOf v) (h .corners) → o ≡ partsIn h g p → z ≡ valueIn v h g p
+pub weighed-is : (v : Value) (h : HeldCell) (g : Geometry) (p : Point) {l : List (List ℤ)} {at : PlaceInCell} {z : ℤ} → z ≡ bilinear (squareOf l) (at .u) (at .v) (at .p) (at .q)
+    → l ≡ square (valueOf v) (h .corners) → at ≡ placeIn h g p → z ≡ valueIn v h g p
 unfolding valueIn
-weighed-is v h g p w s o = w ∙ (λ i. bilinear (squareOf (s i)) (o i .north) (o i .east) (g .latitude .spacing) (g .longitude .spacing))
+weighed-is v h g p w s e = w ∙ (λ i. bilinear (squareOf (s i)) (e i .u) (e i .v) (e i .p) (e i .q))
 
 -- The values in a held cell that passes question 9 are within its limits.
-pub values-within : {h : HeldCell} {g : Geometry} {p : Point} → h .passes ≡ true → Holds h g p → NodeWithin (valuesIn h g p)
-unfolding valueIn valuesIn correctionsIn heightIn
-values-within {h} t k =
-    let c = sym (k .asked) ∙ t in
-    let north = k .parts .north in
-    let east = k .parts .east in
-    let area = mul-pos (k .parts .height .least) (k .parts .width .least) in
-    record {
-      latitude = value-within _ north east area (corners-within (valueOf value.LatitudeCorrection) (λ n w. w .latitude) (h .corners) c);
-      longitude = value-within _ north east area (corners-within (valueOf value.LongitudeCorrection) (λ n w. w .longitude) (h .corners) c);
-      height = value-within _ north east area (corners-within (valueOf value.Height) (λ n w. w .height) (h .corners) c);
-    }
+module _ {h : HeldCell} {g : Geometry} {p : Point} (t : h .passes ≡ true) (k : Holds h g p) where
+  within-limit : {M : ℕ} (v : Value) → ((n : Node) → NodeWithin n → natAbs (valueOf v n) ≤ M) → natAbs (valueIn v h g p) ≤ M
+  unfolding valueIn
+  within-limit v small =
+      let w = corners-within (valueOf v) small (h .corners) (sym (k .asked) ∙ t) in
+      value-within _ (w .southwest) (w .southeast) (w .northwest) (w .northeast) (k .place .north) (k .place .east) (mul-pos (k .place .latitude-spacing .least) (k .place .longitude-spacing .least))
+
+  pub values-within : NodeWithin (valuesIn h g p)
+  unfolding valuesIn correctionsIn heightIn
+  values-within =
+      record {
+        latitude = within-limit value.LatitudeCorrection (λ n w. w .latitude);
+        longitude = within-limit value.LongitudeCorrection (λ n w. w .longitude);
+        height = within-limit value.Height (λ n w. w .height);
+      }
 
 -- The values of a lookup in the bounds are within question 9's limits.
 pub found-within : {size : ℕ} (g : Grid) (p : Point) (n : Node) → Open size (g .geometry) → inside (g .geometry) p ≡ true → lookup g p ≡ values n → NodeWithin n

@@ -1,2 +1,2 @@
--- Laws of the lookup that its functions cite.
+-- Laws of the lookup and of held cells, for its functions and for the crates above.
 pub mod Found

@@ -1,1 +1,2 @@
+-- What the contracts of the lookup cite.
 pub mod Values

@@ -9,21 +9,20 @@ use Rattle.rules.specs.declared.Geometry.{Geometry}
 use Rattle.rules.specs.declared.Point.{Point}
 use Rattle.rules.specs.declared.Node.{Node}
 use Rattle.rules.specs.declared.Correction.{Correction}
+use Rattle.rules.specs.Units.{degrees}
 use Rattle.rules.specs.Image.{Grid}
-use Rattle.rules.specs.Questions.{AxisPasses}
-use Rattle.rules.specs.Bilinear.{offset, cellOf, squareOf, bilinear}
+use Rattle.rules.specs.Limits.{AxisPasses}
+use Rattle.rules.specs.Bilinear.{offset, cellFor, squareOf, bilinear}
 use Rattle.rules.specs.Lookup.{inside}
 use Rattle.bilinear.specs.Mean.{InCell}
-use Rattle.nodes.specs.Cell.{cellAt, allPass, valueOf, square}
+use Rattle.nodes.specs.Cell.{cellAt, cornersPass, valueOf, square}
 use Rattle.nodes.specs.declared.Value.{Value}
 use Rattle.nodes.specs.declared.Value.the-variants as value
 use Rattle.lookup.specs.declared.HeldCell.{HeldCell}
 use Rattle.lookup.specs.declared.Offsets.{Offsets}
+use Rattle.lookup.specs.declared.PlaceInCell.{PlaceInCell}
 
--- The cell of an angle, and the offset of the cell's south or west side.
-abbrev pub cellFor : Axis → ℤ → ℕ
-cellFor a z = cellOf a (offset a z)
-
+-- The offset of the south or west side of an angle's cell.
 abbrev pub sideFor : Axis → ℤ → ℕ
 sideFor a z = cellFor a z * a .spacing
 
@@ -33,21 +32,27 @@ heldAt g p =
     let a = g .geometry .latitude in
     let o = g .geometry .longitude in
     let c = cellAt g (cellFor a (p .latitude)) (cellFor o (p .longitude)) in
-    record { corners = c; south = sideFor a (p .latitude); west = sideFor o (p .longitude); passes = allPass c }
+    record { corners = c; south = sideFor a (p .latitude); west = sideFor o (p .longitude); passes = cornersPass c }
 
 -- A point in the bounds of a geometry that questions 3 to 5 let pass.
 pub record Bounded (g : Geometry) (p : Point) : Type 0 where
-  pub latitude : AxisPasses 90000000000 (g .latitude)
-  pub longitude : AxisPasses 180000000000 (g .longitude)
+  pub latitude : AxisPasses (degrees 90) (g .latitude)
+  pub longitude : AxisPasses (degrees 180) (g .longitude)
   pub point : inside g p ≡ true
 
 -- How far it lies from the south and the west bound.
 abbrev pub offsetsOf : Geometry → Point → Offsets
 offsetsOf g p = record { north = offset (g .latitude) (p .latitude); east = offset (g .longitude) (p .longitude) }
 
--- How far it lies from the south and the west side of a held cell.
-abbrev pub partsIn : HeldCell → Geometry → Point → Offsets
-partsIn h g p = record { north = offsetsOf g p .north - h .south; east = offsetsOf g p .east - h .west }
+-- Its place in a held cell.
+abbrev pub placeIn : HeldCell → Geometry → Point → PlaceInCell
+placeIn h g p =
+    record {
+      u = offsetsOf g p .north - h .south;
+      v = offsetsOf g p .east - h .west;
+      p = g .latitude .spacing;
+      q = g .longitude .spacing;
+    }
 
 -- An offset at or past a side, and less than one spacing from it.
 unfoldable pub reaches : ℕ → ℕ → ℕ → Bool
@@ -65,15 +70,14 @@ pub record Holds (h : HeldCell) (g : Geometry) (p : Point) : Type 0 where
   pub bounded : Bounded g p
   pub south : h .south ≤ offsetsOf g p .north
   pub west : h .west ≤ offsetsOf g p .east
-  pub parts : InCell (partsIn h g p .north) (partsIn h g p .east) (g .latitude .spacing) (g .longitude .spacing)
-  pub asked : h .passes ≡ allPass (h .corners)
+  pub place : let at = placeIn h g p in InCell (at .u) (at .v) (at .p) (at .q)
+  pub asked : h .passes ≡ cornersPass (h .corners)
 
 -- The bilinear value of one of a node's values, from the corners of a held cell.
 unfoldable pub valueIn : Value → HeldCell → Geometry → Point → ℤ
 valueIn v h g p =
-    bilinear (squareOf (square (valueOf v) (h .corners)))
-    (partsIn h g p .north) (partsIn h g p .east)
-    (g .latitude .spacing) (g .longitude .spacing)
+    let at = placeIn h g p in
+    bilinear (squareOf (square (valueOf v) (h .corners))) (at .u) (at .v) (at .p) (at .q)
 
 unfoldable pub correctionsIn : HeldCell → Geometry → Point → Correction
 correctionsIn h g p = record { latitude = valueIn value.LatitudeCorrection h g p; longitude = valueIn value.LongitudeCorrection h g p }

@@ -1,4 +1,4 @@
-// Questions 7 to 9 of a point, and the lookup at it: the cell around the point, read from the image, and the values in that cell.
+// Questions 8 and 9 of a point, and the lookup at it: the cell around the point, read from the image, and the values in that cell.
 use bilinear::locate;
 use bilinear::weigh;
 use image::far_bound;
@@ -7,7 +7,6 @@ use nodes::Value;
 use nodes::cell_at;
 use nodes::cell_passes;
 use nodes::square_of;
-use numbers::is_within;
 use rules::Axis;
 use rules::Correction;
 use rules::Geometry;
@@ -17,13 +16,14 @@ use rules::Point;
 use rules::Refusal;
 ghost use mathlib.Core.Path.{_≡_};
 ghost use mathlib.Core.Bool.{true};
-ghost use Rattle.rules.specs.Answers.{values, lookupOf};
+ghost use Rattle.rules.specs.Answers.{values};
 ghost use Rattle.rules.specs.Image.{gridOf};
-ghost use Rattle.rules.specs.Questions.{AxisPasses, opening};
+ghost use Rattle.rules.specs.Questions.{opening};
+ghost use Rattle.rules.specs.Units.{degrees};
+ghost use Rattle.rules.specs.Limits.{AxisPasses};
 ghost use Rattle.rules.specs.Bilinear.{offset};
 ghost use Rattle.rules.specs.Lookup as lookup;
-ghost use Rattle.rules.specs.Ways.{question7};
-ghost use Rattle.lookup.specs.Values.{heldAt, reaches, liesIn, Bounded, offsetsOf, partsIn, Holds, valuesIn, correctionsIn, heightIn};
+ghost use Rattle.lookup.specs.Values.{heldAt, reaches, liesIn, Bounded, offsetsOf, placeIn, Holds, valuesIn, correctionsIn, heightIn};
 
 // A cell read from an image: the nodes at its corners, how far its south and west side lie from the bounds there, and
 // the answer to question 9.
@@ -34,30 +34,24 @@ pub struct HeldCell {
     pub passes: bool,
 }
 
-// How far a point lies from a south and from a west side.
+// How far a point lies from the south and from the west bound.
 pub struct Offsets {
     pub north: u64,
     pub east: u64,
 }
 
-// Question 7, with the way's limit on heights.
-pub fn fix_passes(p: Point, height: i64, limit: u64) -> bool
-    ensures { λ r. ⌜ r ≡ question7 limit p height ⌝ }
-{
-    if is_within(p.latitude, 90_000_000_000) {
-        if is_within(p.longitude, 180_000_000_000) {
-            is_within(height, limit)
-        } else {
-            false
-        }
-    } else {
-        false
-    }
+// Where a point lies in a cell: document 01's u and v, how far from its south and from its west side, and P and Q, the latitude and the
+// longitude spacing.
+pub struct PlaceInCell {
+    pub u: u64,
+    pub v: u64,
+    pub p: u64,
+    pub q: u64,
 }
 
 // Is the point in the bounds, all four included?
 pub fn in_bounds(g: Geometry, p: Point) -> bool
-    requires { ⌜ AxisPasses 90000000000 (g .latitude) × AxisPasses 180000000000 (g .longitude) ⌝ }
+    requires { ⌜ AxisPasses (degrees 90) (g .latitude) × AxisPasses (degrees 180) (g .longitude) ⌝ }
     ensures { λ r. ⌜ r ≡ lookup.inside g p ⌝ }
 {
     let latitude = g.latitude;
@@ -69,8 +63,9 @@ pub fn in_bounds(g: Geometry, p: Point) -> bool
     }
 }
 
+// Is an angle from an axis's start to its far bound, both included?
 fn on_axis(a: Axis, z: i64) -> bool
-    requires { ⌜ AxisPasses 180000000000 a ⌝ }
+    requires { ⌜ AxisPasses (degrees 180) a ⌝ }
     ensures { λ r. ⌜ r ≡ lookup.onAxis a z ⌝ }
 {
     if a.start <= z {
@@ -83,7 +78,7 @@ fn on_axis(a: Axis, z: i64) -> bool
 // The lookup at a point in the bounds: question 9 for its cell, then the three values.
 pub fn look_up(image: &[u8], g: Geometry, p: Point) -> Lookup
     requires { ⌜ (opening (now image) ≡ values g) × (lookup.inside g p ≡ true) ⌝ }
-    ensures { λ r. ⌜ lookupOf r ≡ lookup.lookup (gridOf (now (image .entry)) g) p ⌝ }
+    ensures { λ r. ⌜ lookup.lookupOf r ≡ lookup.lookup (gridOf (now (image .entry)) g) p ⌝ }
 {
     let h = cell_around(image, g, p);
     if !h.passes {
@@ -146,7 +141,7 @@ fn offsets_of(g: Geometry, p: Point) -> Offsets
 
 // The distance of an angle on an axis from the axis's start.
 fn offset_on(a: Axis, z: i64) -> u64
-    requires { ⌜ AxisPasses 180000000000 a × (lookup.onAxis a z ≡ true) ⌝ }
+    requires { ⌜ AxisPasses (degrees 180) a × (lookup.onAxis a z ≡ true) ⌝ }
     ensures { λ r. ⌜ r ≡ offset a z ⌝ }
 {
     (z - a.start) as u64
@@ -171,13 +166,21 @@ pub fn corrections_in(h: HeldCell, g: Geometry, p: Point) -> Correction
     requires { ⌜ (h .passes ≡ true) × Holds h g p ⌝ }
     ensures { λ r. ⌜ r ≡ correctionsIn h g p ⌝ }
 {
-    let north_step = g.latitude.spacing;
-    let east_step = g.longitude.spacing;
-    let at = parts_in(h, g, p);
-    let north = square_of(h.corners, Value::LatitudeCorrection);
-    let east = square_of(h.corners, Value::LongitudeCorrection);
-    let latitude = weigh(north, at.north, at.east, north_step, east_step);
-    let longitude = weigh(east, at.north, at.east, north_step, east_step);
+    let at = place_in(h, g, p);
+    let latitude = weigh(
+        square_of(h.corners, Value::LatitudeCorrection),
+        at.u,
+        at.v,
+        at.p,
+        at.q,
+    );
+    let longitude = weigh(
+        square_of(h.corners, Value::LongitudeCorrection),
+        at.u,
+        at.v,
+        at.p,
+        at.q,
+    );
     Correction {
         latitude,
         longitude,
@@ -189,21 +192,20 @@ pub fn height_in(h: HeldCell, g: Geometry, p: Point) -> i64
     requires { ⌜ (h .passes ≡ true) × Holds h g p ⌝ }
     ensures { λ r. ⌜ r ≡ heightIn h g p ⌝ }
 {
-    let north_step = g.latitude.spacing;
-    let east_step = g.longitude.spacing;
-    let at = parts_in(h, g, p);
-    let up = square_of(h.corners, Value::Height);
-    weigh(up, at.north, at.east, north_step, east_step)
+    let at = place_in(h, g, p);
+    weigh(square_of(h.corners, Value::Height), at.u, at.v, at.p, at.q)
 }
 
-// How far a point lies from the south and the west side of a held cell.
-fn parts_in(h: HeldCell, g: Geometry, p: Point) -> Offsets
+// The place of a point in a held cell.
+fn place_in(h: HeldCell, g: Geometry, p: Point) -> PlaceInCell
     requires { ⌜ Holds h g p ⌝ }
-    ensures { λ r. ⌜ r ≡ partsIn h g p ⌝ }
+    ensures { λ r. ⌜ r ≡ placeIn h g p ⌝ }
 {
     let from = offsets_of(g, p);
-    Offsets {
-        north: from.north - h.south,
-        east: from.east - h.west,
+    PlaceInCell {
+        u: from.north - h.south,
+        v: from.east - h.west,
+        p: g.latitude.spacing,
+        q: g.longitude.spacing,
     }
 }

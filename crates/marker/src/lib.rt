@@ -10,11 +10,11 @@ use rules::Reading;
 use rules::Writing;
 use slopes::grid_check;
 ghost use mathlib.Core.Path.{_≡_};
-ghost use lib.IntN.{pos};
+ghost use Rattle.rules.specs.Answers.{statusOf, after};
 ghost use Rattle.rules.specs.Check.{gridCheck};
-ghost use Rattle.rules.specs.Lists.{listOut, listBack, listAfter, listNumber};
+ghost use Rattle.rules.specs.Lists.{listOut, listBack};
 ghost use Rattle.rules.specs.Notation.{readNotation, writeNotation};
-ghost use Rattle.marker.specs.Calls.{statusOf, findingsAfter, angleAfter, notationAfter};
+ghost use Rattle.marker.specs.Calls.{findingsAfter, notationAfter};
 
 // The grid check: 0 with the six findings written, or the number.
 #[no_mangle]
@@ -44,8 +44,8 @@ pub extern "C" fn marker_grid_check(image: &[u8], findings: &mut [i64; 6]) -> i6
 // All fixes out: 0 with every answer written, or the number of the question that left the answers unchanged.
 #[no_mangle]
 pub extern "C" fn marker_list_out(image: &[u8], fixes: &[i64], answers: &mut [i64]) -> i64
-    ensures number { λ r. ⌜ r ≡ pos (listNumber (listOut (now (image .entry)) (now (fixes .entry)) (now (answers .entry)))) ⌝ }
-    ensures answers { λ _. ⌜ now (answers .exit) ≡ listAfter (listOut (now (image .entry)) (now (fixes .entry)) (now (answers .entry))) (now (answers .entry)) ⌝ }
+    ensures number { λ r. ⌜ r ≡ statusOf (listOut (now (image .entry)) (now (fixes .entry)) (now (answers .entry))) ⌝ }
+    ensures answers { λ _. ⌜ now (answers .exit) ≡ after (listOut (now (image .entry)) (now (fixes .entry)) (now (answers .entry))) (now (answers .entry)) ⌝ }
 {
     list_out(image, fixes, answers)
 }
@@ -53,8 +53,8 @@ pub extern "C" fn marker_list_out(image: &[u8], fixes: &[i64], answers: &mut [i6
 // All fixes back, likewise.
 #[no_mangle]
 pub extern "C" fn marker_list_back(image: &[u8], fixes: &[i64], answers: &mut [i64]) -> i64
-    ensures number { λ r. ⌜ r ≡ pos (listNumber (listBack (now (image .entry)) (now (fixes .entry)) (now (answers .entry)))) ⌝ }
-    ensures answers { λ _. ⌜ now (answers .exit) ≡ listAfter (listBack (now (image .entry)) (now (fixes .entry)) (now (answers .entry))) (now (answers .entry)) ⌝ }
+    ensures number { λ r. ⌜ r ≡ statusOf (listBack (now (image .entry)) (now (fixes .entry)) (now (answers .entry))) ⌝ }
+    ensures answers { λ _. ⌜ now (answers .exit) ≡ after (listBack (now (image .entry)) (now (fixes .entry)) (now (answers .entry))) (now (answers .entry)) ⌝ }
 {
     list_back(image, fixes, answers)
 }
@@ -70,7 +70,7 @@ pub extern "C" fn marker_read_notation(
     nd: &mut i64,
 ) -> i64
     ensures number { λ r. ⌜ r ≡ statusOf (readNotation longitude (record { degrees = degrees; minutes = minutes; fraction = «hundred_thousandths»; letter = letter })) ⌝ }
-    ensures angle { λ _. ⌜ now (nd .exit) ≡ angleAfter (readNotation longitude (record { degrees = degrees; minutes = minutes; fraction = «hundred_thousandths»; letter = letter })) (now (nd .entry)) ⌝ }
+    ensures angle { λ _. ⌜ now (nd .exit) ≡ after (readNotation longitude (record { degrees = degrees; minutes = minutes; fraction = «hundred_thousandths»; letter = letter })) (now (nd .entry)) ⌝ }
 {
     let n = Notation {
         degrees,

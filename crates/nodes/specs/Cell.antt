@@ -31,8 +31,8 @@ cellAt g row column =
     }
 
 -- Question 9 of the four corners.
-unfoldable pub allPass : Cell → Bool
-allPass c =
+unfoldable pub cornersPass : Cell → Bool
+cornersPass c =
     (nodePasses (c .southwest) && nodePasses (c .southeast)) && (nodePasses (c .northwest) && nodePasses (c .northeast))
 
 -- One of a node's three values, case by case.

@@ -1,1 +1,2 @@
+-- What the contracts of the nodes and cells cite.
 pub mod Cell

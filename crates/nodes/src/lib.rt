@@ -8,9 +8,9 @@ ghost use mathlib.Core.Bool.{_&&_};
 ghost use Prim.Native.Nat.{_+_, _*_, _≤_, _<_};
 ghost use lib.ListN.{length};
 ghost use Rattle.rules.specs.Image.{rows, columns, gridOf, nodeAt};
-ghost use Rattle.rules.specs.Questions.{Open};
+ghost use Rattle.rules.specs.Limits.{Open};
 ghost use Rattle.rules.specs.Lookup.{nodePasses};
-ghost use Rattle.nodes.specs.Cell.{nodeOf, rowStart, cellAt, allPass, valueOf, square};
+ghost use Rattle.nodes.specs.Cell.{nodeOf, rowStart, cellAt, cornersPass, valueOf, square};
 
 // The nodes at the corners of a cell.
 pub struct Cell {
@@ -20,7 +20,7 @@ pub struct Cell {
     pub northeast: Node,
 }
 
-// The three values of a node.
+// Which of a node's three values.
 pub enum Value {
     LatitudeCorrection,
     LongitudeCorrection,
@@ -79,7 +79,7 @@ pub fn node_of(row: &[u8], column: u64) -> Node
 
 // Question 9 of the four corners.
 pub fn cell_passes(c: Cell) -> bool
-    ensures { λ r. ⌜ r ≡ allPass c ⌝ }
+    ensures { λ r. ⌜ r ≡ cornersPass c ⌝ }
 {
     let southwest = c.southwest;
     let southeast = c.southeast;
@@ -92,6 +92,7 @@ pub fn cell_passes(c: Cell) -> bool
     }
 }
 
+// Question 9 of two nodes.
 fn both_pass(west: Node, east: Node) -> bool
     ensures { λ r. ⌜ r ≡ (nodePasses west && nodePasses east) ⌝ }
 {

@@ -1,19 +1,17 @@
--- The rules of reading and writing in the parts that the code answers: the amounts of question 13, the side of zero that a letter
--- means, the letter that is written.
+-- The rule of reading in the parts that the code answers: the amounts of question 13, and the side of zero that a letter means.
 use mathlib.Core.Bool.{Bool, true, false, cond, _&&_, _||_}
 use mathlib.Core.Path.{_≡_, refl}
 use Prim.Native.Nat.{ℕ, _*_, _≤_, _<_}
 use native.Mathlib.Omega.{arith}
 use lib.Dec.{leb, ltb, eqb}
 use lib.IntN.{ℤ, pos, negℤ}
-use lib.Signed.{ltZ}
 use borrow.Author.Tests.{ltb-true, leb-true, lt-ltb, eqb-true, ne-eqb}
-use Rattle.integers.specs.Tests.{and-left, and-right}
+use Rattle.integers.specs.Booleans.{and-left, and-right}
 use Rattle.rules.specs.declared.Notation.{Notation}
 use Rattle.rules.specs.Answers.{Outcome, values, number, ask}
-use Rattle.rules.specs.Notation.{perDegree, perMinute, total, axisLimit, upperLetter, lowerLetter, readable, magnitudeRead, readNotation}
+use Rattle.rules.specs.Notation.{perDegree, perMinute, total, axisLimit, positiveLetter, negativeLetter, readable, magnitudeRead, readNotation}
 use Rattle.notation.specs.declared.Side.{Side}
-use Rattle.notation.specs.declared.Side.the-variants.{Upper, Lower, Neither}
+use Rattle.notation.specs.declared.Side.the-variants.{Positive, Negative, Neither}
 
 -- Minutes below 60, hundred-thousandths below 6,000,000, a total within the axis's limit.
 unfoldable pub amountsFit : Bool → Notation → Bool
@@ -21,21 +19,17 @@ amountsFit longitude n = ltb (n .minutes) 60 && (ltb (n .fraction) perMinute && 
 
 -- The side that a letter means on an axis: neither, where it is no letter of the axis.
 abbrev pub sideOf : Bool → ℕ → Side
-sideOf longitude letter = cond (eqb letter (upperLetter longitude)) Upper (cond (eqb letter (lowerLetter longitude)) Lower Neither)
+sideOf longitude letter = cond (eqb letter (positiveLetter longitude)) Positive (cond (eqb letter (negativeLetter longitude)) Negative Neither)
 
 -- The angle of a size on a side of zero, or 13.
 abbrev pub angleOn : Side → ℕ → Outcome ℤ
-angleOn Upper size = values (pos size)
-angleOn Lower size = values (negℤ (pos size))
+angleOn Positive size = values (pos size)
+angleOn Negative size = values (negℤ (pos size))
 angleOn Neither size = number 13
-
--- The letter that is written with an angle: zero counts as N or E.
-abbrev pub letterWritten : Bool → ℤ → ℕ
-letterWritten longitude z = cond (ltZ z (pos 0)) (lowerLetter longitude) (upperLetter longitude)
 
 -- The rule of reading in two of these parts: the amounts, and the letter.
 in-parts : (a b u l d : Bool) (size : ℕ) → (u ≡ true → l ≡ false)
-    → ask (a && (b && ((u || l) && d))) 13 (values (cond l (negℤ (pos size)) (pos size))) ≡ ask (a && (b && d)) 13 (angleOn (cond u Upper (cond l Lower Neither)) size)
+    → ask (a && (b && ((u || l) && d))) 13 (values (cond l (negℤ (pos size)) (pos size))) ≡ ask (a && (b && d)) 13 (angleOn (cond u Positive (cond l Negative Neither)) size)
 in-parts false b u l d size h = refl
 in-parts true false u l d size h = refl
 in-parts true true true l d size h = rw (h refl)
@@ -43,7 +37,7 @@ in-parts true true false true d size h = refl
 in-parts true true false false true size h = refl
 in-parts true true false false false size h = refl
 
-one-letter : (longitude : Bool) (letter : ℕ) → eqb letter (upperLetter longitude) ≡ true → eqb letter (lowerLetter longitude) ≡ false
+one-letter : (longitude : Bool) (letter : ℕ) → eqb letter (positiveLetter longitude) ≡ true → eqb letter (negativeLetter longitude) ≡ false
 one-letter true letter h = let e = eqb-true letter 69 h in ne-eqb letter 87 (λ k. omega arith)
 one-letter false letter h = let e = eqb-true letter 78 h in ne-eqb letter 83 (λ k. omega arith)
 

@@ -13,17 +13,17 @@ use borrow.Author.Tests.{le-leb, eqb-true}
 use Rattle.integers.specs.Difference.{var, lit, minus}
 use Rattle.integers.specs.Distance.{size, abs-is}
 use Rattle.integers.specs.Machine.{zarith}
-use Rattle.rules.proofs.Opening.{asked}
+use Rattle.rules.proofs.Answers.{asked}
 use Rattle.rules.specs.declared.Notation.{Notation}
 use Rattle.rules.specs.Units.{degrees}
 use Rattle.rules.specs.Answers.{values}
-use Rattle.rules.specs.Notation.{total, axisLimit, upperLetter, lowerLetter, magnitudeRead, readNotation, totalWritten, writeNotation}
-use Rattle.notation.specs.declared.Side.the-variants.{Upper, Lower, Neither}
-use Rattle.notation.specs.Parts.{amountsFit, angleOn, letterWritten, read-in-parts, Amounts, amounts}
+use Rattle.rules.specs.Notation.{total, axisLimit, positiveLetter, negativeLetter, magnitudeRead, readNotation, totalWritten, letterWritten, writeNotation}
+use Rattle.notation.specs.declared.Side.the-variants.{Positive, Negative, Neither}
+use Rattle.notation.specs.Parts.{amountsFit, angleOn, read-in-parts, Amounts, amounts}
 use Rattle.notation.specs.Totals.{total-back, read-most, read-above, read-zero, lettered, split-total}
 
--- An angle is on the upper side with the upper letter, or on the lower side with the lower one.
-by-side : (u l : Bool) (m : ℕ) (z : ℤ) → angleOn (cond u Upper (cond l Lower Neither)) m ≡ values z → ((u ≡ true) × (z ≡ pos m)) ⊎ ((l ≡ true) × (z ≡ negℤ (pos m)))
+-- An angle is on the positive side with the positive letter, or on the negative side with the negative one.
+by-side : (u l : Bool) (m : ℕ) (z : ℤ) → angleOn (cond u Positive (cond l Negative Neither)) m ≡ values z → ((u ≡ true) × (z ≡ pos m)) ⊎ ((l ≡ true) × (z ≡ negℤ (pos m)))
 by-side true l m z h = inl (refl, cc)
 by-side false true m z h = inr (refl, cc)
 by-side false false m z h = let e : _≡_ {A = ℕ} 0 1 = cc in absurd (omega arith)
@@ -35,14 +35,14 @@ pub record ReadAs (longitude : Bool) (n : Notation) (z : ℤ) : Type 0 where
   pub letter-read : 0 < total n → letterWritten longitude z ≡ n .letter
 
 module _ (longitude : Bool) (n : Notation) (z : ℤ) (a : Amounts longitude n) where
-  upper-read : (eqb (n .letter) (upperLetter longitude) ≡ true) × (z ≡ pos (magnitudeRead (total n))) → ReadAs longitude n z
-  upper-read h =
+  positive-read : (eqb (n .letter) (positiveLetter longitude) ≡ true) × (z ≡ pos (magnitudeRead (total n))) → ReadAs longitude n z
+  positive-read h =
       let e = h .1 in
       let t : ltZ z (pos 0) ≡ false = omega zarith in
       record { fitting = a; size-read = ap natAbs e; letter-read = λ _. rw t (sym (eqb-true _ _ (h .0))) }
 
-  lower-read : (eqb (n .letter) (lowerLetter longitude) ≡ true) × (z ≡ negℤ (pos (magnitudeRead (total n)))) → ReadAs longitude n z
-  lower-read h =
+  negative-read : (eqb (n .letter) (negativeLetter longitude) ≡ true) × (z ≡ negℤ (pos (magnitudeRead (total n)))) → ReadAs longitude n z
+  negative-read h =
       let e = h .1 in
       let form = minus (lit (magnitudeRead (total n))) in
       let below : 0 < total n → ltZ z (pos 0) ≡ true = λ k. omega (zarith, form, read-above k) in
@@ -52,7 +52,7 @@ pub read-as : (longitude : Bool) (n : Notation) (z : ℤ) → readNotation longi
 read-as longitude n z h =
     let k = asked (amountsFit longitude n) 13 _ z (sym (read-in-parts longitude n) ∙ h) in
     let a = amounts longitude n (k .0) in
-    ⊎-elim (upper-read longitude n z a) (lower-read longitude n z a) (by-side _ _ _ z (k .1))
+    ⊎-elim (positive-read longitude n z a) (negative-read longitude n z a) (by-side _ _ _ z (k .1))
 
 module _ (longitude : Bool) (n : Notation) (z : ℤ) (h : readNotation longitude n ≡ values z) where
   -- A reading is within the axis's limit, so writing never refuses what reading gave.
@@ -69,15 +69,15 @@ module _ (longitude : Bool) (n : Notation) (z : ℤ) (h : readNotation longitude
       rw (le-leb _ _ read-within, r .size-read, total-back, split-total n _ (r .fitting .minutes-below) (r .fitting .fraction-below))
 
   -- A zero comes back with N or E, whichever of the axis's letters it was read with.
-  pub zero-read-then-write : total n ≡ 0 → writeNotation longitude z ≡ values (lettered n (upperLetter longitude))
+  pub zero-read-then-write : total n ≡ 0 → writeNotation longitude z ≡ values (lettered n (positiveLetter longitude))
   zero-read-then-write zero =
       let s = read-as longitude n z h .size-read ∙ ap magnitudeRead zero ∙ read-zero in
       let t : ltZ z (pos 0) ≡ false = omega (zarith, size z) in
       rw t at amounts-back
 
   -- Every notation above zero comes back as it was read, and so does a zero with N or E.
-  pub read-then-write : (total n ≡ 0 → n .letter ≡ upperLetter longitude) → writeNotation longitude z ≡ values n
-  read-then-write upper =
-      ⊎-elim (λ e. zero-read-then-write e ∙ ap (λ letter. values (lettered n letter)) (sym (upper e)))
+  pub read-then-write : (total n ≡ 0 → n .letter ≡ positiveLetter longitude) → writeNotation longitude z ≡ values n
+  read-then-write positive =
+      ⊎-elim (λ e. zero-read-then-write e ∙ ap (λ letter. values (lettered n letter)) (sym (positive e)))
       (λ k. amounts-back ∙ ap (λ letter. values (lettered n letter)) (read-as longitude n z h .letter-read k))
       (eq-zero-or-pos (total n))

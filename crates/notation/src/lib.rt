@@ -10,8 +10,7 @@ ghost use mathlib.Core.Path.{_≡_};
 ghost use Prim.Native.Nat.{_*_, _^_, _≤_, _<_};
 ghost use lib.IntN.{pos};
 ghost use Rattle.rules.specs.Units.{degrees};
-ghost use Rattle.rules.specs.Answers.{readingOf, writingOf};
-ghost use Rattle.rules.specs.Notation.{perDegree, total, axisLimit, upperLetter, lowerLetter, magnitudeRead, readNotation, totalWritten, split, writeNotation};
+ghost use Rattle.rules.specs.Notation.{perDegree, total, axisLimit, positiveLetter, negativeLetter, magnitudeRead, readNotation, totalWritten, split, writeNotation, readingOf, writingOf};
 ghost use Rattle.notation.specs.Parts.{sideOf, amountsFit};
 
 // A degree in nd, and a degree and a minute in hundred-thousandths of a second.
@@ -21,10 +20,10 @@ const PER_DEGREE: u64 = 360000000;
 
 const PER_MINUTE: u64 = 6000000;
 
-// The side of zero that a letter puts an angle on: N and E the upper one, S and W the lower one.
+// The side of zero that a letter puts an angle on: N and E the positive one, S and W the negative one.
 enum Side {
-    Upper,
-    Lower,
+    Positive,
+    Negative,
     Neither,
 }
 
@@ -38,8 +37,8 @@ pub fn read_notation(longitude: bool, n: Notation) -> Reading
     let size = size_of(total_of(n));
     let letter = n.letter;
     match letter_side(longitude, letter) {
-        Side::Upper => Reading::Angle(size),
-        Side::Lower => Reading::Angle(-size),
+        Side::Positive => Reading::Angle(size),
+        Side::Negative => Reading::Angle(-size),
         Side::Neither => Reading::Refused(Refusal::BadNotation),
     }
 }
@@ -102,14 +101,14 @@ fn letter_side(longitude: bool, letter: u8) -> Side
 {
     if longitude {
         match letter {
-            b'E' => Side::Upper,
-            b'W' => Side::Lower,
+            b'E' => Side::Positive,
+            b'W' => Side::Negative,
             _ => Side::Neither,
         }
     } else {
         match letter {
-            b'N' => Side::Upper,
-            b'S' => Side::Lower,
+            b'N' => Side::Positive,
+            b'S' => Side::Negative,
             _ => Side::Neither,
         }
     }
@@ -117,7 +116,7 @@ fn letter_side(longitude: bool, letter: u8) -> Side
 
 // The letter of an angle on an axis, by whether the angle is below zero.
 fn letter_of(longitude: bool, below: bool) -> u8
-    ensures { λ r. ⌜ r ≡ cond below (lowerLetter longitude) (upperLetter longitude) ⌝ }
+    ensures { λ r. ⌜ r ≡ cond below (negativeLetter longitude) (positiveLetter longitude) ⌝ }
 {
     if longitude {
         if below { b'W' } else { b'E' }

@@ -1,7 +1,8 @@
-// Numbers as the machine holds them: the size of a signed number, limits, the little-endian numbers of an image, and the numbers of refusals.
+// Numbers as the machine holds them: the size of a signed number, limits, the smaller and the larger of two, the little-endian numbers of an
+// image, and the numbers of refusals.
 use rules::Refusal;
 ghost use mathlib.Core.Path.{_≡_};
-ghost use Prim.Native.Nat.{_+_, _≤_, _<_};
+ghost use Prim.Native.Nat.{_+_, _≤_, _<_, min, max};
 ghost use lib.IntN.{pos, natAbs, _-ℤ_};
 ghost use lib.ListN.{length};
 ghost use Rattle.rules.specs.Units.{between, within};
@@ -34,6 +35,20 @@ pub fn is_between(n: u64, low: u64, high: u64) -> bool
     ensures { λ r. ⌜ r ≡ between low high n ⌝ }
 {
     if low <= n { n <= high } else { false }
+}
+
+// The smaller of two numbers.
+pub fn smaller(a: u64, b: u64) -> u64
+    ensures { λ r. ⌜ r ≡ min a b ⌝ }
+{
+    if a < b { a } else { b }
+}
+
+// The larger of two numbers.
+pub fn larger(a: u64, b: u64) -> u64
+    ensures { λ r. ⌜ r ≡ max a b ⌝ }
+{
+    if a < b { b } else { a }
 }
 
 // A byte, widened.

@@ -1,4 +1,4 @@
--- What the functions over an image's bytes and geometry ask and tell, as facts of the list of bytes, the geometry, the parameter and the result. Assumes nothing.
+-- What the functions over an image's bytes and geometry ask and tell, as facts of the list of bytes, the geometry, the parameter and the result.
 use mathlib.Core.Bool.{true}
 use mathlib.Core.List.{List}
 use mathlib.Core.Path.{_≡_}
@@ -7,11 +7,12 @@ use Rattle.rules.specs.declared.Geometry.{Geometry}
 use Rattle.rules.specs.declared.Point.{Point}
 use Rattle.rules.specs.declared.Lookup.{Lookup}
 use Rattle.rules.specs.declared.Answer.{Answer}
-use Rattle.rules.specs.Answers.{values, lookupOf, answerOf}
+use Rattle.rules.specs.declared.Way.the-variants as way
+use Rattle.rules.specs.Answers.{values}
 use Rattle.rules.specs.Image.{gridOf}
 use Rattle.rules.specs.Questions.{opening}
-use Rattle.rules.specs.Lookup.{inside, lookup}
-use Rattle.rules.specs.Ways.{sourceOf, out}
+use Rattle.rules.specs.Lookup.{inside, lookup, lookupOf}
+use Rattle.rules.specs.Ways.{sourceOf, convertOver, answerOf}
 use Rattle.opened.specs.declared.Fix.{Fix}
 
 -- the bytes have passed questions 1 to 6 with this geometry
@@ -26,4 +27,4 @@ abbrev pub IsLookup : List ℕ → Geometry → Point → Lookup → Type 0
 IsLookup b g p r = lookupOf r ≡ lookup (gridOf b g) p
 
 abbrev pub IsOut : List ℕ → Geometry → Fix → Answer → Type 0
-IsOut b g f r = answerOf r ≡ out (sourceOf (gridOf b g)) (f .point) (f .height)
+IsOut b g f r = answerOf r ≡ convertOver way.Out (sourceOf (gridOf b g)) (f .point) (f .height)

@@ -1,22 +1,25 @@
 // An opened image: a record that refers to the lent bytes and holds the geometry, with few thin functions over it.
-// No borrow checking covers a function over such a record, so each is proved by hand (proofs/), and the work is left to
-// covered functions on the slice and the geometry. An enum cannot hold a reference, so opening does not answer the record:
-// the caller matches `image::open` and makes the record of the geometry found, as `way_out` does.
+// The kit's borrow checker derives the proofs of all other functions but not of those over a record that holds a reference. So each of
+// these is proved by hand (proofs/), by a walk of its compiled code, and leaves the work to a function that the checker covers, on the
+// slice and the geometry. An enum cannot hold a reference, so opening does not answer the record: the caller matches `image::open` and
+// makes the record of the geometry found, as `way_out` does.
 use image::open;
 use lookup::look_up;
-use out::out_over;
 use rules::Answer;
 use rules::Geometry;
 use rules::Lookup;
 use rules::Opened;
 use rules::Point;
+use rules::Way;
+use ways::convert_over;
 ghost use mathlib.Core.Path.{_≡_};
 ghost use mathlib.Core.Bool.{true};
-ghost use Rattle.rules.specs.Answers.{values, lookupOf, answerOf};
+ghost use Rattle.rules.specs.Answers.{values};
 ghost use Rattle.rules.specs.Image.{gridOf};
 ghost use Rattle.rules.specs.Questions.{opening};
-ghost use Rattle.rules.specs.Lookup.{inside, lookup};
+ghost use Rattle.rules.specs.Lookup.{inside, lookup, lookupOf};
 ghost use Rattle.rules.specs.Ways as ways;
+ghost use Rattle.rules.specs.declared.Way.the-variants as way;
 
 // The lent bytes of an image, and the geometry that its trailer gives.
 pub struct OpenedImage<'a> {
@@ -55,7 +58,7 @@ pub fn look_up_in<'a>(image: OpenedImage<'a>, p: Point) -> Lookup
 // The way out of a fix over it.
 pub fn out_over_image<'a>(image: OpenedImage<'a>, f: Fix) -> Answer
     requires { ⌜ opening (now (image .bytes)) ≡ values (image .geometry) ⌝ }
-    ensures { λ r. ⌜ answerOf r ≡ ways.out (ways.sourceOf (gridOf (now (image .entry .bytes)) (image .entry .geometry))) (f .point) (f .height) ⌝ }
+    ensures { λ r. ⌜ ways.answerOf r ≡ ways.convertOver way.Out (ways.sourceOf (gridOf (now (image .entry .bytes)) (image .entry .geometry))) (f .point) (f .height) ⌝ }
 {
     fix_out(image.bytes, image.geometry, f)
 }
@@ -63,22 +66,22 @@ pub fn out_over_image<'a>(image: OpenedImage<'a>, f: Fix) -> Answer
 // The covered way out, of a fix.
 fn fix_out(bytes: &[u8], g: Geometry, f: Fix) -> Answer
     requires { ⌜ opening (now bytes) ≡ values g ⌝ }
-    ensures { λ r. ⌜ answerOf r ≡ ways.out (ways.sourceOf (gridOf (now (bytes .entry)) g)) (f .point) (f .height) ⌝ }
+    ensures { λ r. ⌜ ways.answerOf r ≡ ways.convertOver way.Out (ways.sourceOf (gridOf (now (bytes .entry)) g)) (f .point) (f .height) ⌝ }
 {
-    out_over(bytes, g, f.point, f.height)
+    convert_over(Way::Out, bytes, g, f.point, f.height)
 }
 
-// The record made and handed on. Its parameters are plain, so that its callers need no walk.
+// The record made and handed on. Its parameters are plain, so that its callers need no such walk.
 fn out_through(bytes: &[u8], geometry: Geometry, f: Fix) -> Answer
     requires { ⌜ opening (now bytes) ≡ values geometry ⌝ }
-    ensures { λ r. ⌜ answerOf r ≡ ways.out (ways.sourceOf (gridOf (now (bytes .entry)) geometry)) (f .point) (f .height) ⌝ }
+    ensures { λ r. ⌜ ways.answerOf r ≡ ways.convertOver way.Out (ways.sourceOf (gridOf (now (bytes .entry)) geometry)) (f .point) (f .height) ⌝ }
 {
     out_over_image(opened_image(bytes, geometry), f)
 }
 
 // The way out through an opened image, for every image, point and height: questions 1 to 6 first.
 pub fn way_out(bytes: &[u8], p: Point, height: i64) -> Answer
-    ensures { λ r. ⌜ answerOf r ≡ ways.wayOut (now (bytes .entry)) p height ⌝ }
+    ensures { λ r. ⌜ ways.answerOf r ≡ ways.wayOut (now (bytes .entry)) p height ⌝ }
 {
     match open(bytes) {
         Opened::Grid(g) => out_through(bytes, g, Fix { point: p, height }),

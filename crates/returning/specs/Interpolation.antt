@@ -1,4 +1,4 @@
--- The bilinear value over any values by row and column: it is a line over lines, so it is within the nodes' limit, and the steps
+-- The bilinear value over any values by row and column: it is within the nodes' limit, and it is a line over lines, so that the steps
 -- between neighbours bound its change.
 use mathlib.Core.Bool.{true}
 use mathlib.Core.Path.{_≡_, ap}
@@ -8,32 +8,33 @@ use native.Mathlib.Omega.{arith}
 use lib.IntN.{ℤ, pos, natAbs, _+ℤ_, _*ℤ_}
 use Rattle.integers.specs.Difference.{up, down, order, var, lit, _⊕_, _⊗_}
 use Rattle.integers.specs.Distance.{Near, near-trans, near-mono}
-use Rattle.integers.specs.Rounding.{roundHalfUp, round-close, round-bound}
+use Rattle.integers.specs.Rounding.{roundHalfUp, round-close}
 use Rattle.rules.specs.declared.Geometry.{Geometry}
 use Rattle.rules.specs.declared.Point.{Point}
 use Rattle.rules.specs.Image.{rows, columns}
-use Rattle.rules.specs.Questions.{Open}
+use Rattle.rules.specs.Limits.{Open}
 use Rattle.rules.specs.Bilinear.{weighted, bilinear, valueAt}
 use Rattle.rules.specs.Lookup.{inside}
-use Rattle.rules.proofs.Cells.{on-latitude, on-longitude}
-use Rattle.returning.specs.Line.{mix, mix-parts, line, line-near, line-limit, line-change}
+use Rattle.rules.proofs.Cells.{offset-most, at-corners, part-most, on-latitude, on-longitude}
+use Rattle.rules.proofs.Weights.{value-within}
+use Rattle.returning.specs.Line.{weightedPair, pair-parts, line, line-near, line-change}
 use Rattle.returning.specs.Points.{Close}
 
--- ---- the sum of corner times weight is a mix of mixes
-times-mix : (a b : ℤ) (s t v : ℕ) → up (mix a b t v) * s + down a * (s * t) + down b * (s * v) ≡ down (mix a b t v) * s + up a * (s * t) + up b * (s * v)
-times-mix a b s t v =
-    let e : (up (mix a b t v) + down a * t + down b * v) * s ≡ (down (mix a b t v) + up a * t + up b * v) * s = ap (λ (n : ℕ). n * s) (mix-parts a b t v) in
+-- ---- the sum of corner times weight is a weighted pair of two of them
+times-pair : (a b : ℤ) (s t v : ℕ) → up (weightedPair a b t v) * s + down a * (s * t) + down b * (s * v) ≡ down (weightedPair a b t v) * s + up a * (s * t) + up b * (s * v)
+times-pair a b s t v =
+    let e : (up (weightedPair a b t v) + down a * t + down b * v) * s ≡ (down (weightedPair a b t v) + up a * t + up b * v) * s = ap (λ (n : ℕ). n * s) (pair-parts a b t v) in
     omega arith
 
-nested : (a b c d : ℤ) (s u t v : ℕ) → a *ℤ pos (s * t) +ℤ b *ℤ pos (s * v) +ℤ c *ℤ pos (u * t) +ℤ d *ℤ pos (u * v) ≡ mix (mix a b t v) (mix c d t v) s u
+nested : (a b c d : ℤ) (s u t v : ℕ) → a *ℤ pos (s * t) +ℤ b *ℤ pos (s * v) +ℤ c *ℤ pos (u * t) +ℤ d *ℤ pos (u * v) ≡ weightedPair (weightedPair a b t v) (weightedPair c d t v) s u
 nested a b c d s u t v =
     omega (
       arith,
       order,
       var a ⊗ lit (s * t) ⊕ var b ⊗ lit (s * v) ⊕ var c ⊗ lit (u * t) ⊕ var d ⊗ lit (u * v),
-      mix-parts (mix a b t v) (mix c d t v) s u,
-      times-mix a b s t v,
-      times-mix c d u t v,
+      pair-parts (weightedPair a b t v) (weightedPair c d t v) s u,
+      times-pair a b s t v,
+      times-pair c d u t v,
     )
 
 -- P × Q, and P × Q times the exact value at a point.
@@ -58,11 +59,12 @@ module _ {length : ℕ} (g : Geometry) (o : Open length g) (f : ℕ → ℕ → 
   -- A value is within the nodes' limit.
   pub value-limit : (M : ℕ) → ((row column : ℕ) → row < rows g → column < columns g → natAbs (f row column) ≤ M)
       → (p : Point) → inside g p ≡ true → natAbs (valueAt g f p) ≤ M
-  unfolding surface
+  unfolding valueAt
   value-limit M limit p i =
-      let n : natAbs (surface g f p) ≤ g .latitude .spacing * (g .longitude .spacing * M) =
-      line-limit (o .latitude .sized) _ _ (λ row l. line-limit (o .longitude .sized) (f row) M (λ column m. limit row column l m) _ (on-longitude g p i)) _ (on-latitude g p i) in
-      rw (value-is g f p) (round-bound (surface g f p) (area g) M spaced (omega arith))
+      let n = at-corners (λ row column. natAbs (f row column) ≤ M) o limit p in
+      let north = part-most (g .latitude) _ (o .latitude .sized) (offset-most (g .latitude) (p .latitude) (on-latitude g p i)) in
+      let east = part-most (g .longitude) _ (o .longitude .sized) (offset-most (g .longitude) (p .longitude) (on-longitude g p i)) in
+      value-within _ (n .0) (n .1) (n .2) (n .3) north east spaced
 
   module _ (A B : ℕ)
       (north : (row column : ℕ) → row + 1 < rows g → column < columns g → Near A (f row column) (f (row + 1) column))

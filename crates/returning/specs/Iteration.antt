@@ -7,13 +7,12 @@ use native.Mathlib.Omega.{arith}
 use lib.IntN.{natAbs, _-ℤ_}
 use Rattle.integers.specs.Difference.{up, down, var, _⊕_, _⊖_}
 use Rattle.integers.specs.Distance.{Near, size}
-use Rattle.integers.specs.Tests.{branched}
 use Rattle.rules.specs.declared.Point.{Point}
 use Rattle.rules.specs.declared.Correction.{Correction}
 use Rattle.rules.specs.Answers.{Outcome, values}
 use Rattle.rules.specs.Ways.{Source, plus, minus, settled, Settled, iterate}
-use Rattle.rules.proofs.Opening.{asked, followed}
-use Rattle.returning.specs.Points.{Close, close-within, within-close, settled-close, close-settled, close-self, close-mono, Gradual}
+use Rattle.rules.proofs.Evaluations.{every-answer}
+use Rattle.returning.specs.Points.{Close, close-within, within-close, settled-close, close-settled, close-self, close-mono, SteadyValue}
 
 -- p is q plus c, in the form that `omega` reads and proves.
 pub record Sum (q : Point) (c : Correction) (p : Point) : Type 0 where
@@ -44,35 +43,18 @@ itself s q c i h = record { inside = i; from = q; from-inside = i; near = close-
 
 -- Every answer of the way out is a solution, whatever the corrections.
 pub sound : (s : Source) (stop : ℕ) (p : Point) (left n : ℕ) (r : Point) → s .inside r ≡ true → (e : Settled)
-    → iterate s stop p left n r ≡ values e → Solution s stop p (e .point) × (n < e .count)
-unfolding iterate
-sound s stop p zero n r i e h = let z : _≡_ {A = ℕ} 0 1 = cc in absurd (omega arith)
-sound s stop p (suc left) n r i e h =
-    let f = followed (s .corrections r) _ e h in
-    let c = f .0 in
-    let a = asked (s .inside (minus p c)) 10 _ e (f .2) in
-    branched (settled stop (minus p c) r) _ _ _ (a .1)
-    (λ t k.
-    let q : minus p c ≡ e .point = cc in
-    let m : n + 1 ≡ e .count = cc in (
-      record {
-        inside = rw q at (a .0);
-        from = r;
-        from-inside = i;
-        near = rw q at (settled-close stop (minus p c) r t);
-        correction = c;
-        found = f .1;
-        sum = rw q at (minus-sum p c);
-      },
-      omega arith,
-    ))
-    (λ t k. let v = sound s stop p left (n + 1) (minus p c) (a .0) e k in (v .0, omega (arith, v .1)))
+    → iterate s stop p left n r ≡ values e → Solution s stop p (e .point)
+sound s stop p =
+    every-answer s stop p (λ left n e. Solution s stop p (e .point))
+    (λ left n r c i f j t.
+    record { inside = j; from = r; from-inside = i; near = settled-close stop (minus p c) r t; correction = c; found = f; sum = minus-sum p c })
+    (λ left n e v. v)
 
--- What the iteration asks of the corrections: in the bounds they are answered, are at most M from zero, and change slowly.
-pub record Slow (s : Source) (at : Point → Correction) (lag : ℕ → ℕ) (M : ℕ) : Type 0 where
+-- What the iteration asks of the corrections: in the bounds they are answered, and both are steady values.
+pub record SteadyCorrections (s : Source) (at : Point → Correction) (allowed : ℕ → ℕ) (M : ℕ) : Type 0 where
   pub answered : (q : Point) → s .inside q ≡ true → s .corrections q ≡ values (at q)
-  pub latitude : Gradual (s .inside) lag M (λ q. at q .latitude)
-  pub longitude : Gradual (s .inside) lag M (λ q. at q .longitude)
+  pub latitude : SteadyValue (s .inside) allowed M (λ q. at q .latitude)
+  pub longitude : SteadyValue (s .inside) allowed M (λ q. at q .longitude)
 
 -- Every point within M of p is in the bounds.
 abbrev pub Room : Source → ℕ → Point → Type 0
@@ -84,15 +66,15 @@ pub record Answered (w : Outcome Settled) (most : ℕ) : Type 0 where
   pub is : w ≡ values end
   pub counted : end .count ≤ most
 
-module _ {s : Source} {at : Point → Correction} {lag : ℕ → ℕ} {M : ℕ} (S : Slow s at lag M) where
+module _ {s : Source} {at : Point → Correction} {allowed : ℕ → ℕ} {M : ℕ} (S : SteadyCorrections s at allowed M) where
   -- A correction moves a point by at most M.
   moved : {p q r : Point} → s .inside r ≡ true → Sum q (at r) p → Close M q p
   moved {r} i h = omega (arith, size (at r .latitude), size (at r .longitude), S .latitude .limit r i, S .longitude .limit r i)
 
   -- The corrections of points D apart.
   record Alike (D : ℕ) (q r : Point) : Type 0 where
-    latitude : Near (lag D) (at q .latitude) (at r .latitude)
-    longitude : Near (lag D) (at q .longitude) (at r .longitude)
+    latitude : Near (allowed D) (at q .latitude) (at r .latitude)
+    longitude : Near (allowed D) (at q .longitude) (at r .longitude)
 
   alike : {D : ℕ} {q r : Point} → s .inside q ≡ true → s .inside r ≡ true → Close D q r → Alike D q r
   alike {D} {q} {r} i j h = record { latitude = S .latitude .change q r D i j h; longitude = S .longitude .change q r D i j h }
@@ -101,18 +83,18 @@ module _ {s : Source} {at : Point → Correction} {lag : ℕ → ℕ} {M : ℕ} 
   solved : {stop : ℕ} {p q : Point} (v : Solution s stop p q) → Sum q (at (v .from)) p
   solved v = let e : v .correction ≡ at (v .from) = cc (v .found, S .answered (v .from) (v .from-inside)) in rw e at (v .sum)
 
-  -- The answer, taken back, is within `lag stop` of the given point.
-  pub returns : {stop : ℕ} {p q : Point} → Solution s stop p q → Close (lag stop) (plus q (at q)) p
+  -- The answer, taken back, is within `allowed stop` of the given point.
+  pub returns : {stop : ℕ} {p q : Point} → Solution s stop p q → Close (allowed stop) (plus q (at q)) p
   returns {q} v = omega (arith, solved v, plus-sum q (at q), alike (v .inside) (v .from-inside) (v .near))
 
   -- Given points e apart have solutions E apart, where E bounds every distance D that the corrections allow.
-  pub apart : {a b e E : ℕ} {p p′ q q′ : Point} → ((D : ℕ) → D ≤ e + lag (a + D + b) → D ≤ E)
+  pub apart : {a b e E : ℕ} {p p′ q q′ : Point} → ((D : ℕ) → D ≤ e + allowed (a + D + b) → D ≤ E)
       → Solution s a p q → Solution s b p′ q′ → Close e p p′ → Close E q q′
   apart {a} {b} {e} {q} {q′} solve v w h =
       let D = max (natAbs (q .latitude -ℤ q′ .latitude)) (natAbs (q .longitude -ℤ q′ .longitude)) in
       let f : Close D q q′ = within-close record { latitude = omega arith; longitude = omega arith } in
       let g : Close (a + D + b) (v .from) (w .from) = omega (arith, f, v .near, w .near) in
-      let j : Close (e + lag (a + D + b)) q q′ = omega (arith, h, solved v, solved w, alike (v .from-inside) (w .from-inside) g) in
+      let j : Close (e + allowed (a + D + b)) q q′ = omega (arith, h, solved v, solved w, alike (v .from-inside) (w .from-inside) g) in
       let m = close-within j in
       close-mono (solve D (omega arith)) f
 
@@ -121,7 +103,7 @@ module _ {s : Source} {at : Point → Correction} {lag : ℕ → ℕ} {M : ℕ} 
   back-room {q} i room r h = room r (omega (arith, h, moved i (plus-sum q (at q))))
 
   -- Distances that end with the stop distance: corrections of points `reach (k + 1)` apart differ by at most `reach k`.
-  module _ (stop : ℕ) (reach : ℕ → ℕ) (stops : reach 0 ≤ stop) (shrinks : (k : ℕ) → lag (reach (suc k)) ≤ reach k) (p : Point) (room : Room s M p) where
+  module _ (stop : ℕ) (reach : ℕ → ℕ) (stops : reach 0 ≤ stop) (shrinks : (k : ℕ) → allowed (reach (suc k)) ≤ reach k) (p : Point) (room : Room s M p) where
     next-inside : (r : Point) → s .inside r ≡ true → s .inside (minus p (at r)) ≡ true
     next-inside r i = room (minus p (at r)) (moved i (minus-sum p (at r)))
 

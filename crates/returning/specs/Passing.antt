@@ -10,7 +10,7 @@ use lib.Signed.{_≤ℤ_}
 use borrow.Author.Tests.{leb-true}
 use Rattle.integers.specs.Difference.{order, var, lit, _⊕_, _⊖_}
 use Rattle.integers.specs.Distance.{Near, near-sym, abs-near}
-use Rattle.integers.specs.Tests.{and-both, all-three}
+use Rattle.integers.specs.Booleans.{and-both, all-three}
 use Rattle.rules.specs.declared.Axis.{Axis}
 use Rattle.rules.specs.declared.Geometry.{Geometry}
 use Rattle.rules.specs.declared.Point.{Point}
@@ -18,20 +18,21 @@ use Rattle.rules.specs.declared.Correction.{Correction}
 use Rattle.rules.specs.declared.Findings.{Findings}
 use Rattle.rules.specs.Answers.{values}
 use Rattle.rules.specs.Image.{Grid, nodeAt, rows, columns, farBound}
-use Rattle.rules.specs.Questions.{Open}
-use Rattle.rules.specs.Bilinear.{offset, cellOf, valueAt}
+use Rattle.rules.specs.Limits.{Open}
+use Rattle.rules.specs.Bilinear.{valueAt}
 use Rattle.rules.specs.Lookup.{onAxis, inside, nodePasses, cellPasses, question9, lookup}
 use Rattle.rules.specs.Ways.{sourceOf}
-use Rattle.rules.specs.Check.{largest, allPass, stepNorth, stepEast, stepsOf, gentle, question12, findingsOf, check}
+use Rattle.rules.specs.Check.{largest, allPass, stepNorth, stepEast, stepsOf, slopePasses, question12, findingsOf, check}
 use Rattle.rules.specs.Promise.{Inside}
-use Rattle.rules.proofs.Opening.{asked}
-use Rattle.rules.proofs.Cells.{on-axis, axis-within, on-latitude, on-longitude, cell-nodes}
+use Rattle.rules.proofs.Answers.{asked}
+use Rattle.rules.proofs.Cells.{on-axis, point-within, at-corners}
 use Rattle.rules.proofs.Limits.{node-within}
-use Rattle.rules.proofs.Over.{every-at, largest-at}
-use Rattle.returning.specs.Points.{Gradual}
+use Rattle.rules.proofs.Largest.{largest-at}
+use Rattle.rules.proofs.Slopes.{all-pass-at}
+use Rattle.returning.specs.Points.{SteadyValue}
 use Rattle.returning.specs.Interpolation.{hundredth, value-limit, value-change}
 use Rattle.returning.specs.Iteration.{Room}
-use Rattle.returning.specs.Trips.{Steady}
+use Rattle.returning.specs.Trips.{SteadySource}
 
 -- The largest over rows and columns bounds each.
 largest-of : (m n : ℕ) (f : ℕ → ℕ → ℕ) (i j : ℕ) → i < m → j < n → f i j ≤ largest m (λ i. largest n (λ j. f i j))
@@ -40,7 +41,7 @@ largest-of m n f i j k l = le-trans (largest-at n (λ j. f i j) j l) (largest-at
 -- ---- one value: its nodes are within M, and question 12 lets its steps pass
 pub record NodesPass (g : Geometry) (M : ℕ) (f : ℕ → ℕ → ℤ) : Type 0 where
   pub limit : (row column : ℕ) → row < rows g → column < columns g → natAbs (f row column) ≤ M
-  pub slope : gentle g (stepsOf g f) ≡ true
+  pub slope : slopePasses g (stepsOf g f) ≡ true
 
 module _ {length : ℕ} (g : Geometry) (o : Open length g) {M : ℕ} (f : ℕ → ℕ → ℤ) (n : NodesPass g M f) where
   north : (row column : ℕ) → row + 1 < rows g → column < columns g → Near (stepNorth g f) (f row column) (f (row + 1) column)
@@ -53,9 +54,9 @@ module _ {length : ℕ} (g : Geometry) (o : Open length g) {M : ℕ} (f : ℕ �
   east row column k l =
       near-sym (abs-near _ _ _ (largest-of (rows g) (columns g - 1) (λ row column. natAbs (f row (column + 1) -ℤ f row column)) row column k (omega arith)))
 
-  pub gradual : Gradual (inside g) hundredth M (valueAt g f)
-  unfolding gentle stepsOf
-  gradual =
+  pub steady-value : SteadyValue (inside g) hundredth M (valueAt g f)
+  unfolding slopePasses stepsOf
+  steady-value =
       record {
         limit = value-limit g o f M (n .limit);
         change = value-change g o f (stepNorth g f) (stepEast g f) north east (leb-true _ _ (n .slope));
@@ -69,14 +70,13 @@ pub record Passes (g : Grid) : Type 0 where
   pub height : NodesPass (g .geometry) 1000000 (g .height)
 
 pub passes : (g : Grid) (f : Findings) → check g ≡ values f → Passes g
-unfolding check allPass question12 findingsOf
+unfolding check question12 findingsOf
 passes g f h =
     let k = g .geometry in
     let a = asked (allPass g) 9 _ f h in
     let b = asked (question12 k (findingsOf g)) 12 _ f (a .1) in
-    let slopes = all-three (gentle k (stepsOf k (g .latitude))) (gentle k (stepsOf k (g .longitude))) (gentle k (stepsOf k (g .height))) (b .0) in
-    let nodes : (row column : ℕ) → row < rows k → column < columns k → nodePasses (nodeAt g row column) ≡ true =
-    λ row column i j. every-at (columns k) _ (every-at (rows k) _ (a .0) row i) column j in
+    let slopes = all-three (slopePasses k (stepsOf k (g .latitude))) (slopePasses k (stepsOf k (g .longitude))) (slopePasses k (stepsOf k (g .height))) (b .0) in
+    let nodes = all-pass-at g (a .0) in
     record {
       nodes = nodes;
       latitude = record { limit = λ row column i j. node-within (nodeAt g row column) (nodes row column i j) .latitude; slope = slopes .0 };
@@ -95,27 +95,21 @@ module _ {length : ℕ} (g : Grid) (o : Open length (g .geometry)) (c : Passes g
   cells-pass : (q : Point) → question9 g q ≡ true
   unfolding question9 cellPasses
   cells-pass q =
-      let a = g .geometry .latitude in
-      let b = g .geometry .longitude in
-      let i = cellOf a (offset a (q .latitude)) in
-      let j = cellOf b (offset b (q .longitude)) in
-      let k : i + 1 < a .count = cell-nodes a (offset a (q .latitude)) (o .latitude .sized) in
-      let l : j + 1 < b .count = cell-nodes b (offset b (q .longitude)) (o .longitude .sized) in
-      and-both (and-both (c .nodes i j (omega arith) (omega arith)) (c .nodes i (j + 1) (omega arith) l)) (and-both (c .nodes (i + 1) j k (omega arith)) (c .nodes (i + 1) (j + 1) k l))
+      let n = at-corners (λ row column. nodePasses (nodeAt g row column) ≡ true) o (c .nodes) q in
+      and-both (and-both (n .0) (n .1)) (and-both (n .2) (n .3))
 
-  pub steady : Steady (sourceOf g) (correctionAt g) (heightAt g)
+  pub steady : SteadySource (sourceOf g) (correctionAt g) (heightAt g)
   unfolding lookup
   steady =
       record {
         corrections = record {
           answered = λ q i. rw (cells-pass q);
-          latitude = gradual (g .geometry) o (g .latitude) (c .latitude);
-          longitude = gradual (g .geometry) o (g .longitude) (c .longitude);
+          latitude = steady-value (g .geometry) o (g .latitude) (c .latitude);
+          longitude = steady-value (g .geometry) o (g .longitude) (c .longitude);
         };
         height-answered = λ q i. rw (cells-pass q);
-        height = gradual (g .geometry) o (g .height) (c .height);
-        latitude-within = λ q i. axis-within (o .latitude) (q .latitude) (on-latitude (g .geometry) q i);
-        longitude-within = λ q i. axis-within (o .longitude) (q .longitude) (on-longitude (g .geometry) q i);
+        height = steady-value (g .geometry) o (g .height) (c .height);
+        point-within = λ q i. point-within (g .geometry) q (o .latitude) (o .longitude) i;
       }
 
 -- Every point within M of one that is at least d inside is in the bounds, where d is no less than M.

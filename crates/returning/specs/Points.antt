@@ -6,7 +6,7 @@ use native.Mathlib.Omega.{arith}
 use lib.IntN.{ℤ, natAbs, _-ℤ_}
 use borrow.Author.Tests.{leb-true, le-leb}
 use Rattle.integers.specs.Distance.{Near, near-abs, abs-near}
-use Rattle.integers.specs.Tests.{and-left, and-right, and-both}
+use Rattle.integers.specs.Booleans.{and-left, and-right, and-both}
 use Rattle.rules.specs.declared.Point.{Point}
 use Rattle.rules.specs.Units.{within}
 use Rattle.rules.specs.Ways.{settled}
@@ -41,7 +41,8 @@ close-self d p = omega arith
 pub close-mono : {d e : ℕ} {p q : Point} → d ≤ e → Close d p q → Close e p q
 close-mono l h = omega arith
 
--- A value that is at most M from zero in the bounds, and changes there by at most `lag D` between points at most D apart.
-pub record Gradual (inside : Point → Bool) (lag : ℕ → ℕ) (M : ℕ) (value : Point → ℤ) : Type 0 where
+-- A steady value is at most M from zero in the bounds, and changes there by at most `allowed D`, the change allowed between points at most
+-- D apart.
+pub record SteadyValue (inside : Point → Bool) (allowed : ℕ → ℕ) (M : ℕ) (value : Point → ℤ) : Type 0 where
   pub limit : (q : Point) → inside q ≡ true → natAbs (value q) ≤ M
-  pub change : (q r : Point) (D : ℕ) → inside q ≡ true → inside r ≡ true → Close D q r → Near (lag D) (value q) (value r)
+  pub change : (q r : Point) (D : ℕ) → inside q ≡ true → inside r ≡ true → Close D q r → Near (allowed D) (value q) (value r)

@@ -8,21 +8,22 @@ use Rattle.rules.specs.declared.Findings.{Findings}
 use Rattle.rules.specs.Answers.{values}
 use Rattle.rules.specs.Image.{gridOf}
 use Rattle.rules.specs.Questions.{opening}
-use Rattle.rules.specs.Ways.{wayBack, wayOut}
+use Rattle.rules.specs.Ways.{convert}
 use Rattle.rules.specs.Check.{gridCheck}
 use Rattle.rules.specs.Promise.{ReturnPromise}
-use Rattle.rules.proofs.Opening.{followed, opened}
+use Rattle.rules.proofs.Opening.{opened}
+use Rattle.rules.proofs.Answers.{followed}
 use Rattle.returning.specs.Trips.{fix-trip, point-trip}
 use Rattle.returning.specs.Passing.{passes, steady, room}
 
 pub promise : (b : List ℕ) (g : Geometry) (f : Findings) → opening b ≡ values g → gridCheck b ≡ values f → ReturnPromise b g
-unfolding gridCheck wayOut wayBack
+unfolding gridCheck convert
 promise b g f e c =
     let d = gridOf b g in
     let t = steady d (opened b g e) (passes d f (rw e at c)) in
     record {
-      fixes = λ p h n l. fix-trip t b (λ p h. rw e) (λ q H. rw e) p h (room d _ _ p (omega arith) n) l;
-      points = λ q H n l. point-trip t b (λ p h. rw e) (λ q H. rw e) q H (room d _ _ q (omega arith) n) l;
+      fixes = λ p h n l. fix-trip t b (λ w p h. rw e) p h (room d _ _ p (omega arith) n) l;
+      points = λ q H n l. point-trip t b (λ w p h. rw e) q H (room d _ _ q (omega arith) n) l;
     }
 
 -- An image that passes the check has a geometry, and keeps the promise over it.

@@ -9,30 +9,32 @@ use lib.IntN.{ℤ, natAbs, _+ℤ_, _-ℤ_, -ℤ-+ℤ-cancel}
 use borrow.Author.Tests.{le-leb}
 use Rattle.integers.specs.Difference.{var, _⊕_, _⊖_}
 use Rattle.integers.specs.Distance.{size, abs-add, abs-is}
-use Rattle.integers.specs.Tests.{and-both}
+use Rattle.integers.specs.Booleans.{and-both}
 use Rattle.rules.specs.declared.Point.{Point}
 use Rattle.rules.specs.declared.Correction.{Correction}
-use Rattle.rules.specs.Units.{degrees}
+use Rattle.rules.specs.declared.Way.{Way}
+use Rattle.rules.specs.declared.Way.the-variants as way
+use Rattle.rules.specs.Limits.{PointWithin}
 use Rattle.rules.specs.Answers.{values}
-use Rattle.rules.specs.Ways.{Source, question7, plus, position, back, iterate, out, wayBack, wayOut}
+use Rattle.rules.specs.Ways.{Source, question7, plus, position, back, iterate, out, convertOver, convert}
 use Rattle.rules.specs.Promise.{OutAndBack, BackAndOut}
-use Rattle.rules.proofs.Opening.{asked, followed}
-use Rattle.returning.specs.Points.{Close, close-within, within-close, close-self, close-mono, Gradual}
+use Rattle.rules.proofs.Answers.{asked, followed}
+use Rattle.rules.proofs.Evaluations.{counted}
+use Rattle.returning.specs.Points.{Close, close-within, within-close, close-self, close-mono, SteadyValue}
 use Rattle.returning.specs.Interpolation.{hundredth}
-use Rattle.returning.specs.Iteration.{Solution, sound, itself, Slow, Room, Answered, returns, apart, back-room, settles}
+use Rattle.returning.specs.Iteration.{Solution, sound, itself, SteadyCorrections, Room, Answered, returns, apart, back-room, settles}
 
--- In the bounds, corrections and heights are answered, within question 9's limits, and change by at most one in a hundred, rounded up;
--- and the bounds are within question 7's.
-pub record Steady (s : Source) (at : Point → Correction) (heightAt : Point → ℤ) : Type 0 where
-  pub corrections : Slow s at hundredth 10000000
+-- What the trips ask of a source: its corrections are steady, its height is answered and a steady value, each within question 9's limit and
+-- with a change of at most one in a hundred, rounded up; and its bounds are within question 7's limits.
+pub record SteadySource (s : Source) (at : Point → Correction) (heightAt : Point → ℤ) : Type 0 where
+  pub corrections : SteadyCorrections s at hundredth 10000000
   pub height-answered : (q : Point) → s .inside q ≡ true → s .height q ≡ values (heightAt q)
-  pub height : Gradual (s .inside) hundredth 1000000 heightAt
-  pub latitude-within : (q : Point) → s .inside q ≡ true → natAbs (q .latitude) ≤ degrees 90
-  pub longitude-within : (q : Point) → s .inside q ≡ true → natAbs (q .longitude) ≤ degrees 180
+  pub height : SteadyValue (s .inside) hundredth 1000000 heightAt
+  pub point-within : (q : Point) → s .inside q ≡ true → PointWithin q
 
 -- What is answered going back solves the point that it goes back to, whatever the source.
-pub back-solves : (s : Source) (q r : Point) (H k : ℤ) (n : ℕ) → back s q H ≡ values (position r k n) → Solution s 0 r q
-unfolding back
+pub back-solves : (s : Source) (q r : Point) (H k : ℤ) (n : ℕ) → convertOver way.Back s q H ≡ values (position r k n) → Solution s 0 r q
+unfolding back convertOver
 back-solves s q r H k n h =
     let a = asked (question7 110000000 q H) 7 _ _ h in
     let b = asked (s .inside q) 8 _ _ (a .1) in
@@ -42,27 +44,27 @@ back-solves s q r H k n h =
     let f : plus q (c .0) ≡ r = λ d. record { latitude = e d .latitude; longitude = e d .longitude } in
     rw f at (itself s q (c .0) (b .0) (c .1))
 
-module _ {s : Source} {at : Point → Correction} {heightAt : Point → ℤ} (t : Steady s at heightAt) where
+module _ {s : Source} {at : Point → Correction} {heightAt : Point → ℤ} (t : SteadySource s at heightAt) where
   limits : (limit : ℕ) (q : Point) (h : ℤ) → s .inside q ≡ true → natAbs h ≤ limit → question7 limit q h ≡ true
   unfolding question7
-  limits limit q h i l = and-both (le-leb _ _ (t .latitude-within q i)) (and-both (le-leb _ _ (t .longitude-within q i)) (le-leb _ _ l))
+  limits limit q h i l = let w = t .point-within q i in and-both (le-leb _ _ (w .latitude)) (and-both (le-leb _ _ (w .longitude)) (le-leb _ _ l))
 
   -- Every point in the bounds is answered going back.
-  pub back-values : (q : Point) (H : ℤ) → s .inside q ≡ true → natAbs H ≤ 110000000 → back s q H ≡ values (position (plus q (at q)) (H +ℤ heightAt q) 1)
-  unfolding back
+  pub back-values : (q : Point) (H : ℤ) → s .inside q ≡ true → natAbs H ≤ 110000000 → convertOver way.Back s q H ≡ values (position (plus q (at q)) (H +ℤ heightAt q) 1)
+  unfolding back convertOver
   back-values q H i l = rw (limits 110000000 q H i l, i, t .corrections .answered q i, t .height-answered q i)
 
   -- A fix with room for a correction is answered going out, after at most five evaluations.
   pub record OutAnswer (p : Point) (h : ℤ) : Type 0 where
     pub bessel : Point
     pub count : ℕ
-    pub answered : out s p h ≡ values (position bessel (h -ℤ heightAt bessel) count)
+    pub answered : convertOver way.Out s p h ≡ values (position bessel (h -ℤ heightAt bessel) count)
     pub at-least-one : 1 ≤ count
     pub at-most-five : count ≤ 5
     pub solution : Solution s 1 p bessel
 
   pub goes-out : (p : Point) (h : ℤ) → Room s 10000000 p → natAbs h ≤ 100000000 → OutAnswer p h
-  unfolding out
+  unfolding out convertOver
   goes-out p h room l =
       let i = room p (close-self 10000000 p) in
       let v : Answered (iterate s 1 p 5 0 p) 5 = settles (t .corrections) _ (λ k. 100 ^ k) (omega arith) (λ k. omega arith) p room _ _ (omega arith) (omega arith) in
@@ -71,10 +73,10 @@ module _ {s : Source} {at : Point → Correction} {heightAt : Point → ℤ} (t 
       record {
         bessel = e .point;
         count = e .count;
-        answered = rw (limits 100000000 p h i l, i, v .is, t .height-answered (e .point) (w .0 .inside));
-        at-least-one = w .1;
+        answered = rw (limits 100000000 p h i l, i, v .is, t .height-answered (e .point) (w .inside));
+        at-least-one = counted s 1 p 5 0 p i e (v .is) .0;
         at-most-five = v .counted;
-        solution = w .0;
+        solution = w;
       }
 
   -- The answer goes back to within 1 nd of the fix; every other point that does lies within 3 nd of the answer.
@@ -91,8 +93,8 @@ module _ {s : Source} {at : Point → Correction} {heightAt : Point → ℤ} (t 
   pub height-returns : (H : ℤ) {q q′ : Point} → s .inside q ≡ true → s .inside q′ ≡ true → Close 2 q q′ → natAbs (H +ℤ heightAt q′ -ℤ heightAt q -ℤ H) ≤ 1
   height-returns H {q} {q′} i j h = omega (arith, t .height .change q q′ 2 i j h, abs-is (var H ⊕ var (heightAt q′) ⊖ var (heightAt q) ⊖ var H))
 
-  -- ---- the trips of an image whose two ways are the source's
-  module _ (b : List ℕ) (outward : (p : Point) (h : ℤ) → wayOut b p h ≡ out s p h) (backward : (q : Point) (H : ℤ) → wayBack b q H ≡ back s q H) where
+  -- ---- the trips of an image whose conversions are the source's
+  module _ (b : List ℕ) (same : (w : Way) (p : Point) (h : ℤ) → convert w b p h ≡ convertOver w s p h) where
     pub fix-trip : (p : Point) (h : ℤ) → Room s 10000000 p → natAbs h ≤ 100000000 → OutAndBack b p h
     fix-trip p h room l =
         let v = goes-out p h room l in
@@ -105,12 +107,12 @@ module _ {s : Source} {at : Point → Correction} {heightAt : Point → ℤ} (t 
           nap = H;
           count = v .count;
           returned = plus q (at q);
-          answered = outward p h ∙ v .answered;
+          answered = same way.Out p h ∙ v .answered;
           at-least-one = v .at-least-one;
           at-most-five = v .at-most-five;
-          back-again = backward q H ∙ back-values q H i k ∙ ap (λ (z : ℤ). values (position (plus q (at q)) z 1)) (-ℤ-+ℤ-cancel h (heightAt q));
+          back-again = same way.Back q H ∙ back-values q H i k ∙ ap (λ (z : ℤ). values (position (plus q (at q)) z 1)) (-ℤ-+ℤ-cancel h (heightAt q));
           angles = close-within (fix-returns (v .solution));
-          others = λ q′ H r k n a c. close-within (others-near (v .solution) (back-solves s q′ r H k n (rw (backward q′ H) at a)) (within-close c));
+          others = λ q′ H r k n a c. close-within (others-near (v .solution) (back-solves s q′ r H k n (rw (same way.Back q′ H) at a)) (within-close c));
         }
 
     pub point-trip : (q : Point) (H : ℤ) → Room s 20000000 q → natAbs H ≤ 99000000 → BackAndOut b q H
@@ -121,13 +123,13 @@ module _ {s : Source} {at : Point → Correction} {heightAt : Point → ℤ} (t 
         let v = goes-out p h (back-room (t .corrections) i room) (omega (arith, t .height .limit q i, abs-add H (heightAt q))) in
         let d = point-returns (v .solution) (itself s q (at q) i (t .corrections .answered q i)) in
         record {
-          etrs = p;
+          etrs89 = p;
           height = h;
           returned = v .bessel;
           nap = h -ℤ heightAt (v .bessel);
           count = v .count;
-          answered = backward q H ∙ back-values q H i (omega arith);
-          out-again = outward p h ∙ v .answered;
+          answered = same way.Back q H ∙ back-values q H i (omega arith);
+          out-again = same way.Out p h ∙ v .answered;
           angles = close-within d;
           heights = height-returns H (v .solution .inside) i d;
         }

@@ -1,4 +1,4 @@
--- The laws of an offset's cell and of its part of it, for an axis that questions 3 and 4 let pass.
+-- The laws of an axis that questions 3 to 5 let pass: angles between its bounds, an offset's cell and its part of it; and of points over two.
 use mathlib.Core.Bool.{true}
 use mathlib.Core.Path.{_≡_, ap}
 use Prim.Native.Nat.{ℕ, _+_, _-_, _*_, _/_, _≤_, _<_, min}
@@ -10,16 +10,17 @@ use lib.Signed.{_≤ℤ_, leZ}
 use Rattle.integers.specs.Difference.{≤ℤ-parts, order, var, lit, _⊕_, _⊖_}
 use Rattle.integers.specs.Distance.{size, abs-is}
 use Rattle.integers.specs.Machine.{is-leZ, zarith}
-use Rattle.integers.specs.Tests.{and-left, and-right, and-both}
+use Rattle.integers.specs.Booleans.{and-left, and-right, and-both}
 use Rattle.rules.specs.declared.Axis.{Axis}
 use Rattle.rules.specs.declared.Geometry.{Geometry}
 use Rattle.rules.specs.declared.Point.{Point}
-use Rattle.rules.specs.Image.{farBound}
-use Rattle.rules.specs.Questions.{Sized, AxisPasses}
-use Rattle.rules.specs.Bilinear.{offset, cellOf, partOf}
+use Rattle.rules.specs.Units.{degrees}
+use Rattle.rules.specs.Image.{farBound, rows, columns}
+use Rattle.rules.specs.Limits.{Sized, AxisPasses, Open, PointWithin}
+use Rattle.rules.specs.Bilinear.{offset, cellOf, partOf, cellFor}
 use Rattle.rules.specs.Lookup.{onAxis, inside}
 
--- An angle on the axis lies between its bounds, both ways.
+-- An angle on the axis lies between its bounds, and conversely.
 pub from-start : (a : Axis) (z : ℤ) → onAxis a z ≡ true → a .start ≤ℤ z
 unfolding onAxis
 from-start a z h = let t = and-left (leZ (a .start) z) (leZ z (farBound a)) h in omega zarith
@@ -37,7 +38,7 @@ pub offset-most : (a : Axis) (z : ℤ) → onAxis a z ≡ true → offset a z �
 offset-most a z h =
     omega (arith, order, from-start a z h, to-far a z h, abs-is (var z ⊖ var (a .start)), var (a .start) ⊕ lit ((a .count - 1) * a .spacing))
 
--- There are count − 1 cells.
+-- The cells are 0 to count − 2.
 pub cell-most : (a : Axis) (x : ℕ) → cellOf a x ≤ a .count - 2
 unfolding cellOf
 cell-most a x = min-le-right (x / a .spacing) (a .count - 2)
@@ -45,6 +46,17 @@ cell-most a x = min-le-right (x / a .spacing) (a .count - 2)
 -- Both nodes of a cell are nodes of the axis.
 pub cell-nodes : (a : Axis) (x : ℕ) → Sized a → cellOf a x + 1 < a .count
 cell-nodes a x o = omega (arith, cell-most a x, o .count-least)
+
+-- What holds of every node holds of the four corners of a point's cell.
+pub at-corners : {size : ℕ} {g : Geometry} (T : ℕ → ℕ → Type 0) → Open size g → ((row column : ℕ) → row < rows g → column < columns g → T row column)
+    → (p : Point) → let row = cellFor (g .latitude) (p .latitude) in let column = cellFor (g .longitude) (p .longitude) in
+    T row column × T row (column + 1) × T (row + 1) column × T (row + 1) (column + 1)
+at-corners {g} T o all p =
+    let row = cellFor (g .latitude) (p .latitude) in
+    let column = cellFor (g .longitude) (p .longitude) in
+    let k = cell-nodes (g .latitude) (offset (g .latitude) (p .latitude)) (o .latitude .sized) in
+    let l = cell-nodes (g .longitude) (offset (g .longitude) (p .longitude)) (o .longitude .sized) in
+    (all row column (omega arith) (omega arith), all row (column + 1) (omega arith) l, all (row + 1) column k (omega arith), all (row + 1) (column + 1) k l)
 
 -- The cell starts at or before the offset.
 pub cell-start : (a : Axis) (x : ℕ) → cellOf a x * a .spacing ≤ x
@@ -81,7 +93,7 @@ part-most a x o h = by (decLe (x / a .spacing) (a .count - 2))
         let e : (a .count - 2 + 1) * a .spacing ≡ (a .count - 1) * a .spacing = ap (λ (n : ℕ). n * a .spacing) (omega (arith, o .count-least)) in
         rw m (omega arith)
 
--- The whole length of an axis.
+-- An axis is at most 4,095 × 100,000,000 nd long.
 pub length-most : (a : Axis) → Sized a → (a .count - 1) * a .spacing ≤ 409500000000
 length-most a s = mul-le-mul {n₂ = 4095} (omega arith) (s .spacing-most)
 
@@ -97,3 +109,8 @@ on-latitude g p h = and-left _ _ h
 pub on-longitude : (g : Geometry) (p : Point) → inside g p ≡ true → onAxis (g .longitude) (p .longitude) ≡ true
 unfolding inside
 on-longitude g p h = and-right (onAxis (g .latitude) (p .latitude)) _ h
+
+-- A point in the bounds is within the limits of its angles.
+pub point-within : (g : Geometry) (p : Point) → AxisPasses (degrees 90) (g .latitude) → AxisPasses (degrees 180) (g .longitude) → inside g p ≡ true → PointWithin p
+point-within g p latitude longitude i =
+    record { latitude = axis-within latitude (p .latitude) (on-latitude g p i); longitude = axis-within longitude (p .longitude) (on-longitude g p i) }

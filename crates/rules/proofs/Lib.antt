@@ -1,7 +1,10 @@
 -- Laws about the rules, for the crates above.
 pub mod Order
+pub mod Answers
 pub mod Opening
 pub mod Cells
 pub mod Limits
-pub mod Over
+pub mod Largest
 pub mod Slopes
+pub mod Weights
+pub mod Evaluations

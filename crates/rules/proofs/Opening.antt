@@ -1,43 +1,23 @@
 -- What questions 1 to 6 establish: each question before the geometry was answered yes.
-use mathlib.Core.Bool.{Bool, true, false}
+use mathlib.Core.Bool.{true}
 use mathlib.Core.List.{List}
-use mathlib.Core.Path.{_≡_, refl, subst}
+use mathlib.Core.Path.{_≡_, subst}
 use Prim.Native.Nat.{ℕ, _*_, _≤_}
 use native.Mathlib.Nat.{mul-le-mul}
 use native.Mathlib.Omega.{arith}
 use lib.Dec.{leb, eqb}
 use lib.ListN.{length}
 use borrow.Author.Tests.{leb-true, eqb-true}
-use Rattle.integers.specs.Tests.{and-left, and-right}
+use Rattle.integers.specs.Booleans.{and-left, and-right}
 use Rattle.rules.specs.declared.Axis.{Axis}
 use Rattle.rules.specs.declared.Geometry.{Geometry}
 use Rattle.rules.specs.declared.Trailer.{Trailer}
 use Rattle.rules.specs.Units.{degrees, between, within}
-use Rattle.rules.specs.Answers.{Outcome, values, number, ask, andThen}
+use Rattle.rules.specs.Answers.{values}
 use Rattle.rules.specs.Image.{trailerOf, farBound, rows, columns, backOf}
-use Rattle.rules.specs.Questions.{question1, question2, question3, question4, boundsWithin, question5, question6, judge, opening, Sized, AxisPasses, Open}
-
--- A question before values was answered yes.
-pub asked : {A : Type 0} (t : Bool) (n : ℕ) (next : Outcome A) (a : A) → ask t n next ≡ values a → (t ≡ true) × (next ≡ values a)
-asked true n next a h = (refl, h)
-asked false n next a h = let z : _≡_ {A = ℕ} 0 1 = cc in absurd (omega arith)
-
--- Where values came next, the step before gave values.
-pub followed : {A B : Type 0} (o : Outcome A) (next : A → Outcome B) (b : B) → andThen o next ≡ values b → (a : A) × (o ≡ values a) × (next a ≡ values b)
-followed (values a) next b h = (a, refl, h)
-followed (number n) next b h = let z : _≡_ {A = ℕ} 0 1 = cc in absurd (omega arith)
-
--- A question answered yes, and one answered no.
-pub answered-yes : {A : Type 0} (t : Bool) (n : ℕ) (next : Outcome A) → t ≡ true → ask t n next ≡ next
-answered-yes t n next h = rw h
-
-pub answered-no : {A : Type 0} (t : Bool) (n : ℕ) (next : Outcome A) → t ≡ false → ask t n next ≡ number n
-answered-no t n next h = rw h
-
--- What takes the values after a question comes after the question.
-pub asked-then : {A B : Type 0} (t : Bool) (n : ℕ) (a : A) (next : A → Outcome B) → andThen (ask t n (values a)) next ≡ ask t n (next a)
-asked-then true n a next = refl
-asked-then false n a next = refl
+use Rattle.rules.proofs.Answers.{asked}
+use Rattle.rules.specs.Questions.{question1, question2, question3, question4, boundsWithin, question5, question6, judge, opening}
+use Rattle.rules.specs.Limits.{Sized, AxisPasses, Open}
 
 between-low : (low high n : ℕ) → between low high n ≡ true → low ≤ n
 between-low low high n h = leb-true low n (and-left (leb low n) (leb n high) h)

@@ -1,4 +1,4 @@
--- Each question precedes the next: where two have the answer no, the first one's number is given. Computed on damaged bytes of grid G.
+-- The order of the questions: where two have the answer no, the first one's number is given. Computed on damaged bytes of grid G.
 use mathlib.Core.List.{List, [], _∷_}
 use mathlib.Core.Path.{_≡_, refl}
 use Prim.Native.Nat.{ℕ}
@@ -10,8 +10,8 @@ use Rattle.rules.specs.Image.{u64At, i32At, i64At, trailerOf, plane}
 use Rattle.rules.specs.Questions.{question3, question4, boundsWithin, question5, question6, judge, opening}
 use Rattle.rules.specs.Bilinear.{cellOf, partOf, weighted, bilinear, valueAt}
 use Rattle.rules.specs.Lookup.{onAxis, inside, nodePasses, cellPasses, question9, lookup}
-use Rattle.rules.specs.Ways.{question7, plus, minus, back, settled, iterate, out, wayBack, wayOut}
-use Rattle.rules.specs.Check.{every, largest, allPass, stepNorth, stepEast, stepsOf, gentle, question12, findingsOf, check, gridCheck}
+use Rattle.rules.specs.Ways.{question7, plus, minus, back, settled, iterate, out, convertOver, convert, wayBack, wayOut}
+use Rattle.rules.specs.Check.{every, largest, allPass, stepNorth, stepEast, stepsOf, slopePasses, question12, findingsOf, check, gridCheck}
 use Rattle.rules.specs.Lists.{question14, convertList, listBack}
 use Rattle.rules.specs.Figures.{gridG, variant, at}
 
@@ -36,7 +36,7 @@ abbrev tooHigh : List ℤ
 tooHigh = at (pos 500) (pos 500) .latitude ∷ at (pos 500) (pos 500) .longitude ∷ pos 110000001 ∷ []
 
 pub record Order : Type 0 where
-  pub length-first : opening (drop 109 (oneRow gridG)) ≡ number 1
+  pub length-first : opening (drop 109 gridG) ≡ number 1
   pub edition-before-counts : opening (oneRow (set gridG 144 2)) ≡ number 2
   pub counts-before-spacings : opening (noSpacing (oneRow gridG)) ≡ number 3
   pub spacings-before-bounds : opening (farSouth (noSpacing gridG)) ≡ number 4
@@ -54,7 +54,7 @@ pub record Order : Type 0 where
   pub nodes-before-slopes : gridCheck (badNode gridG) ≡ number 9
 
 pub order : Order
-unfolding gridG roundHalfUp u64At i32At i64At trailerOf plane question3 question4 boundsWithin question5 question6 judge opening cellOf partOf weighted bilinear valueAt onAxis inside nodePasses cellPasses question9 lookup question7 plus minus back settled iterate out wayBack wayOut every largest allPass stepNorth stepEast stepsOf gentle question12 findingsOf check gridCheck question14 convertList listBack
+unfolding gridG roundHalfUp u64At i32At i64At trailerOf plane question3 question4 boundsWithin question5 question6 judge opening cellOf partOf weighted bilinear valueAt onAxis inside nodePasses cellPasses question9 lookup question7 plus minus back settled iterate out convertOver convert every largest allPass stepNorth stepEast stepsOf slopePasses question12 findingsOf check gridCheck question14 convertList
 order =
     record {
       length-first = refl;

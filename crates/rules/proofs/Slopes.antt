@@ -10,7 +10,7 @@ use Rattle.rules.specs.declared.Geometry.{Geometry}
 use Rattle.rules.specs.Image.{Grid, nodeAt, rows, columns}
 use Rattle.rules.specs.Lookup.{nodePasses}
 use Rattle.rules.specs.Check.{every, allPass, stepNorth, stepEast}
-use Rattle.rules.proofs.Over.{every-at, largest-most}
+use Rattle.rules.proofs.Largest.{every-at, largest-most}
 
 pub all-pass-at : (g : Grid) → allPass g ≡ true → (row column : ℕ) → row < rows (g .geometry) → column < columns (g .geometry) → nodePasses (nodeAt g row column) ≡ true
 unfolding allPass

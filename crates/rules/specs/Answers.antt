@@ -1,26 +1,11 @@
--- Document 01, "Questions in order": an answer is its values or a question's number alone. What each enum of the code says in these terms.
+-- Document 01, "Questions in order": an answer is its values or a question's number alone. What an enum of the code says in these terms
+-- stands with the rule that it answers: openedOf (Questions), lookupOf (Lookup), answerOf (Ways), checkedOf (Check), readingOf and
+-- writingOf (Notation).
 use mathlib.Core.Bool.{Bool, true, false}
 use Prim.Native.Nat.{ℕ}
-use lib.IntN.{ℤ}
-use Rattle.rules.specs.declared.Geometry.{Geometry}
-use Rattle.rules.specs.declared.Node.{Node}
-use Rattle.rules.specs.declared.Position.{Position}
-use Rattle.rules.specs.declared.Findings.{Findings}
-use Rattle.rules.specs.declared.Notation.{Notation}
+use lib.IntN.{ℤ, pos}
 use Rattle.rules.specs.declared.Refusal.{Refusal}
 use Rattle.rules.specs.declared.Refusal.the-variants.{ImageLength, Edition, NodeCount, Spacing, GridBounds, NodeBytes, FixLimits, OutsideBounds, NodeLimits, IterateOutside, NotSettled, Slope, BadNotation, ListLengths}
-use Rattle.rules.specs.declared.Opened.{Opened}
-use Rattle.rules.specs.declared.Opened.the-variants as opened
-use Rattle.rules.specs.declared.Lookup.{Lookup}
-use Rattle.rules.specs.declared.Lookup.the-variants as lookup
-use Rattle.rules.specs.declared.Answer.{Answer}
-use Rattle.rules.specs.declared.Answer.the-variants as answer
-use Rattle.rules.specs.declared.Checked.{Checked}
-use Rattle.rules.specs.declared.Checked.the-variants as checked
-use Rattle.rules.specs.declared.Reading.{Reading}
-use Rattle.rules.specs.declared.Reading.the-variants as reading
-use Rattle.rules.specs.declared.Writing.{Writing}
-use Rattle.rules.specs.declared.Writing.the-variants as writing
 
 -- Values, or the number of the question whose answer was no.
 pub data Outcome (A : Type 0) : Type 0 where
@@ -54,27 +39,12 @@ numberOf Slope = 12
 numberOf BadNotation = 13
 numberOf ListLengths = 14
 
--- The number or the values of each enum that the code answers, case by case.
-abbrev pub openedOf : Opened → Outcome Geometry
-openedOf (opened.Grid g) = values g
-openedOf (opened.Refused r) = number (numberOf r)
+-- What a call gives: 0 with values, else the number.
+abbrev pub statusOf : {A : Type 0} → Outcome A → ℤ
+statusOf (values a) = pos 0
+statusOf (number n) = pos n
 
-abbrev pub lookupOf : Lookup → Outcome Node
-lookupOf (lookup.Found n) = values n
-lookupOf (lookup.Refused r) = number (numberOf r)
-
-abbrev pub answerOf : Answer → Outcome Position
-answerOf (answer.Values p) = values p
-answerOf (answer.Refused r) = number (numberOf r)
-
-abbrev pub checkedOf : Checked → Outcome Findings
-checkedOf (checked.Passed f) = values f
-checkedOf (checked.Refused r) = number (numberOf r)
-
-abbrev pub readingOf : Reading → Outcome ℤ
-readingOf (reading.Angle z) = values z
-readingOf (reading.Refused r) = number (numberOf r)
-
-abbrev pub writingOf : Writing → Outcome Notation
-writingOf (writing.Written n) = values n
-writingOf (writing.Refused r) = number (numberOf r)
+-- What a call leaves where its values go: these, else what was there before.
+abbrev pub after : {A : Type 0} → Outcome A → A → A
+after (values a) before = a
+after (number n) before = before

@@ -16,9 +16,16 @@ offset a z = natAbs (z -ℤ a .start)
 unfoldable pub cellOf : Axis → ℕ → ℕ
 cellOf a x = min (x / a .spacing) (a .count - 2)
 
--- The offset's part of its cell: on the far bound the whole spacing.
+-- The offset's part of its cell, document 01's u or v: on the far bound the whole spacing.
 unfoldable pub partOf : Axis → ℕ → ℕ
 partOf a x = x - cellOf a x * a .spacing
+
+-- The cell of an angle on an axis, and the angle's part of it.
+abbrev pub cellFor : Axis → ℤ → ℕ
+cellFor a z = cellOf a (offset a z)
+
+abbrev pub partFor : Axis → ℤ → ℕ
+partFor a z = partOf a (offset a z)
 
 -- The four corner values of a cell.
 pub record Square : Type 0 where
@@ -27,7 +34,7 @@ pub record Square : Type 0 where
   pub northwest : ℤ
   pub northeast : ℤ
 
--- The same as two rows of two, the south row first, each from west to east: document 01's two by two square.
+-- The four corner values from document 01's two by two square: two rows of two, the south row first, each from west to east.
 abbrev pub squareOf : List (List ℤ) → Square
 squareOf s =
     record {
@@ -55,15 +62,15 @@ weighted c u v P Q =
     +ℤ c .northwest *ℤ pos (u * (Q - v))
     +ℤ c .northeast *ℤ pos (u * v)
 
--- The value: that sum divided by P × Q, plus one half, rounded down.
+-- The value: the exact value, which is that sum divided by P × Q, plus one half, rounded down.
 unfoldable pub bilinear : Square → (u v P Q : ℕ) → ℤ
 bilinear c u v P Q = roundHalfUp (weighted c u v P Q) (P * Q)
 
 -- The value at a point in the bounds.
 unfoldable pub valueAt : Geometry → (ℕ → ℕ → ℤ) → Point → ℤ
 valueAt g f p =
-    let x = offset (g .latitude) (p .latitude) in
-    let y = offset (g .longitude) (p .longitude) in
-    bilinear (corners f (cellOf (g .latitude) x) (cellOf (g .longitude) y))
-    (partOf (g .latitude) x) (partOf (g .longitude) y)
-    (g .latitude .spacing) (g .longitude .spacing)
+    let a = g .latitude in
+    let o = g .longitude in
+    bilinear (corners f (cellFor a (p .latitude)) (cellFor o (p .longitude)))
+    (partFor a (p .latitude)) (partFor o (p .longitude))
+    (a .spacing) (o .spacing)

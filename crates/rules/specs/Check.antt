@@ -7,7 +7,9 @@ use lib.IntN.{ℤ, natAbs, _-ℤ_}
 use Rattle.rules.specs.declared.Geometry.{Geometry}
 use Rattle.rules.specs.declared.Steps.{Steps}
 use Rattle.rules.specs.declared.Findings.{Findings}
-use Rattle.rules.specs.Answers.{Outcome, values, ask, andThen}
+use Rattle.rules.specs.declared.Checked.{Checked}
+use Rattle.rules.specs.declared.Checked.the-variants as checked
+use Rattle.rules.specs.Answers.{Outcome, values, number, ask, andThen, numberOf}
 use Rattle.rules.specs.Image.{Grid, gridOf, nodeAt, rows, columns}
 use Rattle.rules.specs.Questions.{opening}
 use Rattle.rules.specs.Lookup.{nodePasses}
@@ -33,19 +35,20 @@ stepNorth g f = largest (rows g - 1) (λ row. largest (columns g) (λ column. na
 unfoldable pub stepEast : Geometry → (ℕ → ℕ → ℤ) → ℕ
 stepEast g f = largest (rows g) (λ row. largest (columns g - 1) (λ column. natAbs (f row (column + 1) -ℤ f row column)))
 
+-- Both, of one value.
 unfoldable pub stepsOf : Geometry → (ℕ → ℕ → ℤ) → Steps
 stepsOf g f = record { north = stepNorth g f; east = stepEast g f }
 
 -- 12. Is 100 × (A × Q + B × P) at most P × Q?
-unfoldable pub gentle : Geometry → Steps → Bool
-gentle g s =
+unfoldable pub slopePasses : Geometry → Steps → Bool
+slopePasses g s =
     let P = g .latitude .spacing in
     let Q = g .longitude .spacing in
     leb (100 * (s .north * Q + s .east * P)) (P * Q)
 
 -- The same for each of the three values.
 unfoldable pub question12 : Geometry → Findings → Bool
-question12 g f = gentle g (f .latitude) && (gentle g (f .longitude) && gentle g (f .height))
+question12 g f = slopePasses g (f .latitude) && (slopePasses g (f .longitude) && slopePasses g (f .height))
 
 -- A and B for latitude correction, longitude correction and height.
 unfoldable pub findingsOf : Grid → Findings
@@ -56,9 +59,15 @@ findingsOf g =
       height = stepsOf (g .geometry) (g .height);
     }
 
+-- The check of a grid: question 9, question 12, then the findings.
 unfoldable pub check : Grid → Outcome Findings
 check g = ask (allPass g) 9 (ask (question12 (g .geometry) (findingsOf g)) 12 (values (findingsOf g)))
 
 -- The grid check of an image: questions 1 to 6 first.
 unfoldable pub gridCheck : List ℕ → Outcome Findings
 gridCheck b = andThen (opening b) (λ g. check (gridOf b g))
+
+-- The code's answer, in these terms.
+abbrev pub checkedOf : Checked → Outcome Findings
+checkedOf (checked.Passed f) = values f
+checkedOf (checked.Refused r) = number (numberOf r)

@@ -13,8 +13,8 @@ use Rattle.rules.specs.Image.{u64At, i32At, i64At, trailerOf, plane, gri
 use Rattle.rules.specs.Questions.{question3, question4, boundsWithin, question5, question6, judge, opening}
 use Rattle.rules.specs.Bilinear.{cellOf, partOf, weighted, bilinear, valueAt}
 use Rattle.rules.specs.Lookup.{onAxis, inside, nodePasses, cellPasses, question9, lookup}
-use Rattle.rules.specs.Ways.{question7, plus, minus, position, back, settled, iterate, out, wayBack, wayOut}
-use Rattle.rules.specs.Check.{every, largest, allPass, stepNorth, stepEast, stepsOf, gentle, question12, findingsOf, check, gridCheck}
+use Rattle.rules.specs.Ways.{question7, plus, minus, position, back, settled, iterate, out, convertOver, convert, wayBack, wayOut}
+use Rattle.rules.specs.Check.{every, largest, allPass, stepNorth, stepEast, stepsOf, slopePasses, question12, findingsOf, check, gridCheck}
 use Rattle.rules.specs.Notation.{total, readable, magnitudeRead, readNotation, totalWritten, split, writeNotation}
 
 -- The trailer of G: south 52,000,000,000, west 5,000,000,000, spacings 1,000, 3 rows, 3 columns, back 148, edition 1.
@@ -36,7 +36,7 @@ gridG =
     108 ∷ 0 ∷ 0 ∷ 0 ∷ 206 ∷ 255 ∷ 255 ∷ 255 ∷ 181 ∷ 143 ∷ 6 ∷ 0 ∷
     108 ∷ 0 ∷ 0 ∷ 0 ∷ 206 ∷ 255 ∷ 255 ∷ 255 ∷ 186 ∷ 143 ∷ 6 ∷ 0 ∷ trailerG
 
--- The four bytes of an i32.
+-- The four bytes of a number, and of an i32 in two's complement.
 abbrev pub word : ℕ → List ℕ
 word n = n % 256 ∷ n / 256 % 256 ∷ n / 65536 % 256 ∷ n / 16777216 ∷ []
 
@@ -108,7 +108,7 @@ pub record Figures : Type 0 where
   pub written-below : writeNotation false (pos 16666665) ≡ values (record { degrees = 0; minutes = 0; fraction = 5999999; letter = 78 })
 
 pub figures : Figures
-unfolding gridG roundHalfUp u64At i32At i64At trailerOf plane question3 question4 boundsWithin question5 question6 judge opening cellOf partOf weighted bilinear valueAt onAxis inside nodePasses cellPasses question9 lookup question7 plus minus back settled iterate out wayBack wayOut every largest allPass stepNorth stepEast stepsOf gentle question12 findingsOf check gridCheck total readable magnitudeRead readNotation totalWritten split writeNotation
+unfolding gridG roundHalfUp u64At i32At i64At trailerOf plane question3 question4 boundsWithin question5 question6 judge opening cellOf partOf weighted bilinear valueAt onAxis inside nodePasses cellPasses question9 lookup question7 plus minus back settled iterate out convertOver convert every largest allPass stepNorth stepEast stepsOf slopePasses question12 findingsOf check gridCheck total readable magnitudeRead readNotation totalWritten split writeNotation
 figures =
     record {
       back-middle = refl;

@@ -28,7 +28,8 @@ i32At b at = twosComplement 2147483648 (u32At b at)
 unfoldable pub i64At : List ℕ → ℕ → ℤ
 i64At b at = twosComplement 9223372036854775808 (u64At b at)
 
--- The trailer: the last 40 bytes.
+-- The trailer, the last 40 bytes: southern latitude at 0, western longitude at 8, latitude spacing at 16, longitude spacing at 20, rows at 24,
+-- columns at 28, back at 32, edition at 36.
 unfoldable pub trailerOf : List ℕ → Trailer
 trailerOf b =
     let at = length b - 40 in
@@ -41,7 +42,7 @@ trailerOf b =
       edition = u32At b (at + 36);
     }
 
--- The far bound of an axis: its start plus (count − 1) spacings.
+-- The far bound of an axis, the northern or the eastern one: its start plus (count − 1) spacings.
 abbrev pub farBound : Axis → ℤ
 farBound a = a .start +ℤ pos ((a .count - 1) * a .spacing)
 

@@ -1,4 +1,4 @@
--- Document 01, question 8's bounds, question 9, and the lookup: the three values at a point in the bounds.
+-- Document 01, "Questions in order": the bounds of questions 8 and 10, question 9, and the lookup: the three values at a point in the bounds.
 use mathlib.Core.Bool.{Bool, _&&_}
 use Prim.Native.Nat.{ℕ, _+_}
 use lib.IntN.{ℤ}
@@ -7,16 +7,18 @@ use Rattle.rules.specs.declared.Axis.{Axis}
 use Rattle.rules.specs.declared.Geometry.{Geometry}
 use Rattle.rules.specs.declared.Point.{Point}
 use Rattle.rules.specs.declared.Node.{Node}
+use Rattle.rules.specs.declared.Lookup.{Lookup}
+use Rattle.rules.specs.declared.Lookup.the-variants as found
 use Rattle.rules.specs.Units.{within}
-use Rattle.rules.specs.Answers.{Outcome, values, ask}
+use Rattle.rules.specs.Answers.{Outcome, values, number, ask, numberOf}
 use Rattle.rules.specs.Image.{Grid, nodeAt, farBound}
-use Rattle.rules.specs.Bilinear.{offset, cellOf, valueAt}
+use Rattle.rules.specs.Bilinear.{cellFor, valueAt}
 
 -- An angle from an axis's start to its far bound, both included.
 unfoldable pub onAxis : Axis → ℤ → Bool
 onAxis a z = leZ (a .start) z && leZ z (farBound a)
 
--- A point in the bounds, all four included.
+-- 8. Is the given point in the bounds, all four included? 10 asks the same of each pk.
 unfoldable pub inside : Geometry → Point → Bool
 inside g p = onAxis (g .latitude) (p .latitude) && onAxis (g .longitude) (p .longitude)
 
@@ -35,7 +37,7 @@ unfoldable pub question9 : Grid → Point → Bool
 question9 g p =
     let a = g .geometry .latitude in
     let o = g .geometry .longitude in
-    cellPasses g (cellOf a (offset a (p .latitude))) (cellOf o (offset o (p .longitude)))
+    cellPasses g (cellFor a (p .latitude)) (cellFor o (p .longitude))
 
 -- The lookup at a point in the bounds: question 9 for its cell, then the three values.
 unfoldable pub lookup : Grid → Point → Outcome Node
@@ -47,3 +49,8 @@ lookup g p =
       longitude = valueAt (g .geometry) (g .longitude) p;
       height = valueAt (g .geometry) (g .height) p;
     }))
+
+-- The code's answer, in these terms.
+abbrev pub lookupOf : Lookup → Outcome Node
+lookupOf (found.Found n) = values n
+lookupOf (found.Refused r) = number (numberOf r)

@@ -1,14 +1,19 @@
--- Document 01, "Degrees, minutes, seconds", with question 13. Letters are the bytes N 78, S 83, E 69, W 87.
+-- Document 01, "Degrees, minutes, seconds", with question 13. Letters are the bytes N 78, S 83, E 69, W 87. In every definition `longitude`
+-- is the wanted axis: true for longitudes, false for latitudes.
 use mathlib.Core.Bool.{Bool, cond, _&&_, _||_}
 use Prim.Native.Nat.{ℕ, _+_, _*_, _/_, _%_}
 use lib.Dec.{leb, ltb, eqb}
 use lib.IntN.{ℤ, pos, negℤ, natAbs}
 use lib.Signed.{ltZ}
 use Rattle.rules.specs.declared.Notation.{Notation}
+use Rattle.rules.specs.declared.Reading.{Reading}
+use Rattle.rules.specs.declared.Reading.the-variants as reading
+use Rattle.rules.specs.declared.Writing.{Writing}
+use Rattle.rules.specs.declared.Writing.the-variants as writing
 use Rattle.rules.specs.Units.{degrees, within}
-use Rattle.rules.specs.Answers.{Outcome, values, ask}
+use Rattle.rules.specs.Answers.{Outcome, values, number, ask, numberOf}
 
--- A degree in hundred-thousandths of a second.
+-- A degree and a minute in hundred-thousandths of a second.
 abbrev pub perDegree : ℕ
 perDegree = 360000000
 
@@ -23,41 +28,55 @@ total n = n .degrees * perDegree + n .minutes * perMinute + n .fraction
 abbrev pub axisLimit : Bool → ℕ
 axisLimit longitude = cond longitude 180 90
 
--- The axis's letter of angles from zero up, and the one of angles below zero.
-abbrev pub upperLetter : Bool → ℕ
-upperLetter longitude = cond longitude 69 78
+-- The axis's letter of angles from zero up, N or E, and the one of angles below zero, S or W.
+abbrev pub positiveLetter : Bool → ℕ
+positiveLetter longitude = cond longitude 69 78
 
-abbrev pub lowerLetter : Bool → ℕ
-lowerLetter longitude = cond longitude 87 83
+abbrev pub negativeLetter : Bool → ℕ
+negativeLetter longitude = cond longitude 87 83
 
 -- 13, in reading: minutes below 60, hundred-thousandths below 6,000,000, a letter of the wanted axis, a total within the axis's limit.
 unfoldable pub readable : Bool → Notation → Bool
 readable longitude n =
     ltb (n .minutes) 60
     && (ltb (n .fraction) perMinute
-    && ((eqb (n .letter) (upperLetter longitude) || eqb (n .letter) (lowerLetter longitude))
+    && ((eqb (n .letter) (positiveLetter longitude) || eqb (n .letter) (negativeLetter longitude))
     && leb (total n) (axisLimit longitude * perDegree)))
 
--- 25 × t / 9 plus one half, rounded down.
+-- The nd of a total t: 25 × t / 9 plus one half, rounded down.
 unfoldable pub magnitudeRead : ℕ → ℕ
 magnitudeRead t = (2 * (25 * t) + 9) / (2 * 9)
 
--- Reading a notation of an axis: then the sign for S and W.
+-- Reading a notation: 13, or the nd of its total with the sign for S and W.
 unfoldable pub readNotation : Bool → Notation → Outcome ℤ
 readNotation longitude n =
     ask (readable longitude n) 13
-    (values (cond (eqb (n .letter) (lowerLetter longitude)) (negℤ (pos (magnitudeRead (total n)))) (pos (magnitudeRead (total n)))))
+    (values (cond (eqb (n .letter) (negativeLetter longitude)) (negℤ (pos (magnitudeRead (total n)))) (pos (magnitudeRead (total n)))))
 
--- (18 × |nd| + 25) / 50, rounded down.
+-- The code's answer, in these terms.
+abbrev pub readingOf : Reading → Outcome ℤ
+readingOf (reading.Angle z) = values z
+readingOf (reading.Refused r) = number (numberOf r)
+
+-- The total that is written of an angle: (18 × |nd| + 25) / 50, rounded down.
 unfoldable pub totalWritten : ℤ → ℕ
 totalWritten z = (18 * natAbs z + 25) / 50
 
--- A total, split.
+-- A total, split into degrees, minutes and hundred-thousandths of a second, with a letter.
 unfoldable pub split : ℕ → ℕ → Notation
 split t letter = record { degrees = t / perDegree; minutes = t / perMinute % 60; fraction = t % perMinute; letter = letter }
 
--- Writing an angle of an axis: 13 where it is beyond the axis's limit; the letter follows the sign, zero counting as N or E.
+-- The letter that is written follows the sign, zero counting as N or E.
+abbrev pub letterWritten : Bool → ℤ → ℕ
+letterWritten longitude z = cond (ltZ z (pos 0)) (negativeLetter longitude) (positiveLetter longitude)
+
+-- Writing an angle: 13 where it is beyond the axis's limit, or its notation.
 unfoldable pub writeNotation : Bool → ℤ → Outcome Notation
 writeNotation longitude z =
     ask (within (degrees (axisLimit longitude)) z) 13
-    (values (split (totalWritten z) (cond (ltZ z (pos 0)) (lowerLetter longitude) (upperLetter longitude))))
+    (values (split (totalWritten z) (letterWritten longitude z)))
+
+-- The code's answer, in these terms.
+abbrev pub writingOf : Writing → Outcome Notation
+writingOf (writing.Written n) = values n
+writingOf (writing.Refused r) = number (numberOf r)

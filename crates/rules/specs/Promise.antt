@@ -1,4 +1,5 @@
--- Demand 3, the return promise (document 01, "Grid check"), of an image b with geometry g.
+-- Demand 3, the return promise (document 01, "Grid check"), of an image b with geometry g. Answered means with values. A trip hands the second
+-- way the two angles and the height that the first one answered.
 use mathlib.Core.List.{List}
 use mathlib.Core.Path.{_≡_}
 use Prim.Native.Nat.{ℕ, _≤_}
@@ -35,23 +36,25 @@ pub record OutAndBack (b : List ℕ) (p : Point) (h : ℤ) : Type 0 where
   -- that answer, taken back, gives each angle within 1 nd of the fix's, and the fix's height exactly
   pub back-again : wayBack b bessel nap ≡ values (position returned h 1)
   pub angles : Within 1 returned p
-  -- every other Bessel point that also goes back to within 1 nd of the fix in both angles lies within 3 nd of the way out's answer in each angle
+  -- every other Bessel point in the bounds (what is answered going back is) that also goes back to within 1 nd of the fix in both angles lies
+  -- within 3 nd of the way out's answer in each angle
   pub others : (q : Point) (H : ℤ) (r : Point) (k : ℤ) (n : ℕ) → wayBack b q H ≡ values (position r k n) → Within 1 r p → Within 3 q bessel
 
 -- A Bessel point q with NAP height H goes back and out.
 pub record BackAndOut (b : List ℕ) (q : Point) (H : ℤ) : Type 0 where
-  pub etrs : Point
+  pub etrs89 : Point
   pub height : ℤ
   pub returned : Point
   pub nap : ℤ
   pub count : ℕ
   -- it is answered going back, and that answer, taken out, is answered too
-  pub answered : wayBack b q H ≡ values (position etrs height 1)
-  pub out-again : wayOut b etrs height ≡ values (position returned nap count)
+  pub answered : wayBack b q H ≡ values (position etrs89 height 1)
+  pub out-again : wayOut b etrs89 height ≡ values (position returned nap count)
   -- each angle within 2 nd of the point's, and the height within 1 unit of the point's
   pub angles : Within 2 returned q
   pub heights : natAbs (nap -ℤ H) ≤ 1
 
+-- The promise, of both kinds of trip.
 pub record ReturnPromise (b : List ℕ) (g : Geometry) : Type 0 where
   -- every fix at least 10,000,000 nd inside all four bounds, height in limits
   pub fixes : (p : Point) (h : ℤ) → Inside 10000000 g p → natAbs h ≤ 100000000 → OutAndBack b p h

@@ -1,15 +1,16 @@
 -- Document 01, "Questions in order": questions 1 to 6, which every call that takes an image puts first.
 use mathlib.Core.Bool.{Bool, _&&_}
 use mathlib.Core.List.{List}
-use Prim.Native.Nat.{ℕ, _≤_}
+use Prim.Native.Nat.{ℕ}
 use lib.Dec.{leb, eqb}
-use lib.IntN.{natAbs}
 use lib.ListN.{length}
 use Rattle.rules.specs.declared.Axis.{Axis}
 use Rattle.rules.specs.declared.Geometry.{Geometry}
 use Rattle.rules.specs.declared.Trailer.{Trailer}
+use Rattle.rules.specs.declared.Opened.{Opened}
+use Rattle.rules.specs.declared.Opened.the-variants as opened
 use Rattle.rules.specs.Units.{degrees, between, within}
-use Rattle.rules.specs.Answers.{Outcome, values, ask}
+use Rattle.rules.specs.Answers.{Outcome, values, number, ask, numberOf}
 use Rattle.rules.specs.Image.{trailerOf, farBound, rows, columns, backOf}
 
 -- 1. Is the length at least 40?
@@ -53,19 +54,7 @@ judge t size =
 unfoldable pub opening : List ℕ → Outcome Geometry
 opening b = ask (question1 (length b)) 1 (judge (trailerOf b) (length b))
 
--- What questions 3 and 4 establish of an axis, 3 to 5 of its bounds, and 1 to 6 of an image's length and geometry (proofs/Opening.antt, `opened`).
-pub record Sized (a : Axis) : Type 0 where
-  pub count-least : 2 ≤ a .count
-  pub count-most : a .count ≤ 4096
-  pub spacing-least : 1 ≤ a .spacing
-  pub spacing-most : a .spacing ≤ 100000000
-
-pub record AxisPasses (limit : ℕ) (a : Axis) : Type 0 where
-  pub sized : Sized a
-  pub start-within : natAbs (a .start) ≤ limit
-  pub far-within : natAbs (farBound a) ≤ limit
-
-pub record Open (size : ℕ) (g : Geometry) : Type 0 where
-  pub latitude : AxisPasses (degrees 90) (g .latitude)
-  pub longitude : AxisPasses (degrees 180) (g .longitude)
-  pub bytes : backOf g ≤ size
+-- The code's answer, in these terms.
+abbrev pub openedOf : Opened → Outcome Geometry
+openedOf (opened.Grid g) = values g
+openedOf (opened.Refused r) = number (numberOf r)

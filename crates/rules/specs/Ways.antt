@@ -6,8 +6,12 @@ use lib.IntN.{ℤ, _+ℤ_, _-ℤ_}
 use Rattle.rules.specs.declared.Point.{Point}
 use Rattle.rules.specs.declared.Correction.{Correction}
 use Rattle.rules.specs.declared.Position.{Position}
+use Rattle.rules.specs.declared.Way.{Way}
+use Rattle.rules.specs.declared.Way.the-variants as way
+use Rattle.rules.specs.declared.Answer.{Answer}
+use Rattle.rules.specs.declared.Answer.the-variants as answer
 use Rattle.rules.specs.Units.{degrees, within}
-use Rattle.rules.specs.Answers.{Outcome, values, number, ask, andThen}
+use Rattle.rules.specs.Answers.{Outcome, values, number, ask, andThen, numberOf}
 use Rattle.rules.specs.Image.{Grid, gridOf}
 use Rattle.rules.specs.Questions.{opening}
 use Rattle.rules.specs.Lookup.{inside, lookup}
@@ -33,16 +37,14 @@ minus p c = record { latitude = p .latitude -ℤ c .latitude; longitude = p .lon
 abbrev pub position : Point → ℤ → ℕ → Position
 position p h n = record { latitude = p .latitude; longitude = p .longitude; height = h; count = n }
 
--- Back, from Bessel point q and NAP height H: q plus the corrections at q, H plus the quasi-geoid height at q, count 1.
+-- Back, from a Bessel point q in the bounds and NAP height H: q plus the corrections at q, H plus the quasi-geoid height at q, count 1.
 unfoldable pub back : Source → Point → ℤ → Outcome Position
 back s q H =
-    ask (question7 110000000 q H) 7
-    (ask (s .inside q) 8
-    (andThen (s .corrections q) (λ c.
+    andThen (s .corrections q) (λ c.
     andThen (s .height q) (λ z.
-    values (position (plus q c) (H +ℤ z) 1)))))
+    values (position (plus q c) (H +ℤ z) 1)))
 
--- The stop rule: two angles that each differ by at most `stop`.
+-- The stop rule: the latitudes of p and q, and their longitudes, each differ by at most `stop` nd; document 01's is 1.
 unfoldable pub settled : ℕ → Point → Point → Bool
 settled stop p q = within stop (p .latitude -ℤ q .latitude) && within stop (p .longitude -ℤ q .longitude)
 
@@ -62,14 +64,26 @@ iterate s stop p (suc left) n r =
     (values (record { point = minus p c; count = n + 1 }))
     (iterate s stop p left (n + 1) (minus p c))))
 
--- Out, from ETRS89 point p and height h: the first pn that the stop rule takes, h minus the quasi-geoid height at pn, and n.
+-- Out, from an ETRS89 point p in the bounds and height h: the first pn that the stop rule takes, h minus the quasi-geoid height at pn,
+-- and n, which does not count the height lookup.
 unfoldable pub out : Source → Point → ℤ → Outcome Position
 out s p h =
-    ask (question7 100000000 p h) 7
-    (ask (s .inside p) 8
-    (andThen (iterate s 1 p 5 0 p) (λ e.
+    andThen (iterate s 1 p 5 0 p) (λ e.
     andThen (s .height (e .point)) (λ z.
-    values (position (e .point) (h -ℤ z) (e .count))))))
+    values (position (e .point) (h -ℤ z) (e .count))))
+
+-- Each way's limit on heights, and what it makes of a point in the bounds.
+abbrev pub heightLimit : Way → ℕ
+heightLimit way.Out = 100000000
+heightLimit way.Back = 110000000
+
+abbrev pub wayOf : Way → Source → Point → ℤ → Outcome Position
+wayOf way.Out = out
+wayOf way.Back = back
+
+-- A conversion: questions 7 and 8, then the way.
+unfoldable pub convertOver : Way → Source → Point → ℤ → Outcome Position
+convertOver w s p h = ask (question7 (heightLimit w) p h) 7 (ask (s .inside p) 8 (wayOf w s p h))
 
 -- A grid's answers: one lookup gives the corrections and the height.
 abbrev pub sourceOf : Grid → Source
@@ -80,9 +94,17 @@ sourceOf g =
       height = λ q. andThen (lookup g q) (λ n. values (n .height));
     }
 
--- The two ways over an image: questions 1 to 6 first.
-unfoldable pub wayBack : List ℕ → Point → ℤ → Outcome Position
-wayBack b q H = andThen (opening b) (λ g. back (sourceOf (gridOf b g)) q H)
+-- A conversion over an image: questions 1 to 6 first.
+unfoldable pub convert : Way → List ℕ → Point → ℤ → Outcome Position
+convert w b p h = andThen (opening b) (λ g. convertOver w (sourceOf (gridOf b g)) p h)
 
-unfoldable pub wayOut : List ℕ → Point → ℤ → Outcome Position
-wayOut b p h = andThen (opening b) (λ g. out (sourceOf (gridOf b g)) p h)
+abbrev pub wayOut : List ℕ → Point → ℤ → Outcome Position
+wayOut = convert way.Out
+
+abbrev pub wayBack : List ℕ → Point → ℤ → Outcome Position
+wayBack = convert way.Back
+
+-- The code's answer, in these terms.
+abbrev pub answerOf : Answer → Outcome Position
+answerOf (answer.Values p) = values p
+answerOf (answer.Refused r) = number (numberOf r)

@@ -39,6 +39,12 @@ pub struct Node {
     pub height: i64,
 }
 
+// The two ways of a conversion: out, from ETRS89 to Bessel and NAP, and back.
+pub enum Way {
+    Out,
+    Back,
+}
+
 // The values of a conversion: the point, its height, and the evaluation count.
 pub struct Position {
     pub latitude: i64,
@@ -60,7 +66,7 @@ pub struct Findings {
     pub height: Steps,
 }
 
-// An angle in degrees, minutes and hundred-thousandths of a second, with the byte of its letter.
+// An angle in degrees, minutes and `fraction`, the hundred-thousandths of a second, with the byte of its letter.
 pub struct Notation {
     pub degrees: u64,
     pub minutes: u64,

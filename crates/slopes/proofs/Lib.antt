@@ -1,3 +1,3 @@
--- Laws of the walk that its functions cite.
+-- Laws of the walk over all rows, for its functions and for the crate above.
 pub mod Maxima
 pub mod Rows

@@ -14,28 +14,28 @@ use Rattle.rules.specs.Answers.{values}
 use Rattle.rules.specs.Image.{Grid, gridOf, nodeAt, rows, columns}
 use Rattle.rules.specs.Questions.{opening}
 use Rattle.rules.specs.Check.{allPass, largest, stepNorth, stepEast, stepsOf, question12, findingsOf, check, gridCheck}
-use Rattle.rules.proofs.Opening.{asked, followed}
-use Rattle.rules.proofs.Over.{largest-none, largest-steps}
+use Rattle.rules.proofs.Answers.{asked, followed}
+use Rattle.rules.proofs.Largest.{largest-none, largest-steps}
 use Rattle.rules.proofs.Limits.{node-within}
 use Rattle.rules.proofs.Slopes.{all-pass-at, north-most, east-most}
-use Rattle.steps.specs.Walk.{noSteps, raised, widened, turns, along}
-use Rattle.steps.proofs.Turns.{turns-more}
+use Rattle.steps.specs.Walk.{noSteps, raised, raisedAll, foldUpTo, along}
+use Rattle.steps.proofs.Folds.{fold-more}
 use Rattle.slopes.specs.Rows.{stepsAt, StepsWithin, FindingsWithin}
 
--- A number that each turn raises to at least f of the turn ends as the larger of the first and the largest f.
-turns-largest : {A : Type 0} (size : A → ℕ) (f : ℕ → ℕ) (step : ℕ → A → A) → ((n : ℕ) (a : A) → size (step n a) ≡ max (size a) (f n))
-    → (n : ℕ) (a : A) → size (turns n step a) ≡ max (size a) (largest n f)
-unfolding turns largest
-turns-largest size f step h zero a = omega arith
-turns-largest size f step h (suc n) a = h n (turns n step a) ∙ omega (arith, turns-largest size f step h n a)
+-- A number that each step n raises to f n at least ends as the larger of the first and the largest f.
+fold-largest : {A : Type 0} (size : A → ℕ) (f : ℕ → ℕ) (step : ℕ → A → A) → ((n : ℕ) (a : A) → size (step n a) ≡ max (size a) (f n))
+    → (n : ℕ) (a : A) → size (foldUpTo n step a) ≡ max (size a) (largest n f)
+unfolding foldUpTo largest
+fold-largest size f step h zero a = omega arith
+fold-largest size f step h (suc n) a = h n (foldUpTo n step a) ∙ omega (arith, fold-largest size f step h n a)
 
 -- The walk over the first rows of a grid.
 unfoldable pub overRows : Grid → ℕ → Findings
-overRows g n = turns n (stepsAt g) noSteps
+overRows g n = foldUpTo n (stepsAt g) noSteps
 
 pub rows-more : (g : Grid) (n : ℕ) → stepsAt g n (overRows g n) ≡ overRows g (n + 1)
 unfolding overRows
-rows-more g n = turns-more n _ noSteps
+rows-more g n = fold-more n _ noSteps
 
 module _ (g : Geometry) (f : ℕ → ℕ → ℤ) where
   still : (x : ℤ) → natAbs (x -ℤ x) ≡ 0
@@ -51,15 +51,15 @@ module _ (g : Geometry) (f : ℕ → ℕ → ℤ) where
 
 -- One of the six numbers.
 walked : (g : Grid) (size : Findings → ℕ) (step : ℕ → ℕ → ℕ) → size noSteps ≡ 0
-    → ((row column : ℕ) (found : Findings) → size (widened found (nodeAt g row column) (nodeAt g row (column - 1)) (nodeAt g (row - 1) column)) ≡ max (size found) (step row column))
+    → ((row column : ℕ) (found : Findings) → size (raisedAll found (nodeAt g row column) (nodeAt g row (column - 1)) (nodeAt g (row - 1) column)) ≡ max (size found) (step row column))
     → size (overRows g (rows (g .geometry))) ≡ largest (rows (g .geometry)) (λ row. largest (columns (g .geometry)) (step row))
 unfolding overRows along
 walked g size step z h =
-    turns-largest size _ _ (λ row a. turns-largest size (step row) _ (λ column. h row column) (columns (g .geometry)) a) (rows (g .geometry)) noSteps
+    fold-largest size _ _ (λ row a. fold-largest size (step row) _ (λ column. h row column) (columns (g .geometry)) a) (rows (g .geometry)) noSteps
     ∙ omega (arith, z)
 
 pub found-all : (g : Grid) → overRows g (rows (g .geometry)) ≡ findingsOf g
-unfolding findingsOf stepsOf widened raised
+unfolding findingsOf stepsOf raisedAll raised
 found-all g = λ i. record {
   latitude = record {
     north = (walked g (λ f. f .latitude .north) _ refl (λ _ _ _. refl) ∙ north-steps (g .geometry) (g .latitude)) i;

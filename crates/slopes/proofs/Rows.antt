@@ -4,24 +4,18 @@ use mathlib.Core.List.{List}
 use mathlib.Core.Path.{_≡_, refl}
 use Prim.Native.Nat.{ℕ, _-_}
 use native.Mathlib.Omega.{arith}
-use lib.ListN.{length, take, drop}
 use Rattle.rules.specs.declared.Geometry.{Geometry}
 use Rattle.rules.specs.declared.Findings.{Findings}
 use Rattle.rules.specs.Image.{gridOf, columns}
 use Rattle.rules.specs.Lookup.{nodePasses}
 use Rattle.rules.specs.Check.{every}
-use Rattle.nodes.specs.Cell.{rowStart}
-use Rattle.nodes.proofs.Parts.{node-in-row}
+use Rattle.nodes.proofs.Parts.{rowPart, node-in-row}
 use Rattle.steps.specs.declared.Walk.the-variants.{Within, Beyond}
 use Rattle.steps.specs.Walk.{walkOf, along, rowPasses, rowFindings}
 use Rattle.slopes.specs.Rows.{passesAt, stepsAt}
 
--- The part of an image that begins at a row's first node.
-abbrev pub partAt : List ℕ → Geometry → ℕ → List ℕ
-partAt b g row = let start = rowStart (length b) g row in take (length b - start) (drop start b)
-
 pub row-walked : (b : List ℕ) (g : Geometry) (row : ℕ) (found : Findings)
-    → walkOf (rowPasses (partAt b g row) (columns g)) (rowFindings (partAt b g (row - 1)) (partAt b g row) (columns g) found)
+    → walkOf (rowPasses (rowPart b g row) (columns g)) (rowFindings (rowPart b g (row - 1)) (rowPart b g row) (columns g) found)
     ≡ walkOf (passesAt (gridOf b g) row) (stepsAt (gridOf b g) row found)
 row-walked b g row found =
     λ i. walkOf

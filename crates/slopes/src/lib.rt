@@ -13,10 +13,9 @@ use steps::walk_row;
 ghost use mathlib.Core.Path.{_≡_};
 ghost use Prim.Native.Nat.{_-_, _<_};
 ghost use lib.ListN.{length};
-ghost use Rattle.rules.specs.Answers.{checkedOf};
 ghost use Rattle.rules.specs.Image.{rows, gridOf};
-ghost use Rattle.rules.specs.Questions.{Sized, Open};
-ghost use Rattle.rules.specs.Check.{allPass, gentle, question12, findingsOf, check, gridCheck};
+ghost use Rattle.rules.specs.Limits.{Sized, Open};
+ghost use Rattle.rules.specs.Check.{allPass, slopePasses, question12, findingsOf, check, gridCheck, checkedOf};
 ghost use Rattle.steps.specs.Walk.{walkOf};
 ghost use Rattle.slopes.specs.Rows.{passesAt, stepsAt, StepsWithin, FindingsWithin};
 
@@ -38,7 +37,7 @@ fn check_nodes(image: &[u8], g: Geometry) -> Checked
     match walk_grid(image, g) {
         Walk::Beyond => Checked::Refused(Refusal::NodeLimits),
         Walk::Within(found) => {
-            if all_gentle(g, found) {
+            if slopes_pass(g, found) {
                 Checked::Passed(found)
             } else {
                 Checked::Refused(Refusal::Slope)
@@ -75,29 +74,29 @@ fn walk_at(image: &[u8], g: Geometry, row: u64, found: Findings) -> Walk
     ensures { λ r. ⌜ r ≡ walkOf (passesAt (gridOf (now (image .entry)) g) row) (stepsAt (gridOf (now (image .entry)) g) row found) ⌝ }
 {
     let size = image.len() as u64;
-    let south = row_start(size, g, previous(row)) as usize;
+    let south = row_start(size, g, southern_row(row)) as usize;
     let start = row_start(size, g, row) as usize;
     walk_row(&image[south..], &image[start..], g.longitude.count, found)
 }
 
 // The row to the south; of the first row the row itself.
-fn previous(row: u64) -> u64
+fn southern_row(row: u64) -> u64
     ensures { λ r. ⌜ r ≡ row - 1 ⌝ }
 {
     if row == 0 { 0 } else { row - 1 }
 }
 
 // Question 12, of steps that question 9 has left small, so that the products fit.
-fn all_gentle(g: Geometry, f: Findings) -> bool
+fn slopes_pass(g: Geometry, f: Findings) -> bool
     requires { ⌜ Sized (g .latitude) × Sized (g .longitude) × FindingsWithin 20000000 f ⌝ }
     ensures { λ r. ⌜ r ≡ question12 g f ⌝ }
 {
     let latitude = f.latitude;
     let longitude = f.longitude;
     let height = f.height;
-    if is_gentle(g, latitude) {
-        if is_gentle(g, longitude) {
-            is_gentle(g, height)
+    if slope_passes(g, latitude) {
+        if slope_passes(g, longitude) {
+            slope_passes(g, height)
         } else {
             false
         }
@@ -107,9 +106,9 @@ fn all_gentle(g: Geometry, f: Findings) -> bool
 }
 
 // The same of one value: its steps per spacing come to at most a hundredth.
-fn is_gentle(g: Geometry, s: Steps) -> bool
+fn slope_passes(g: Geometry, s: Steps) -> bool
     requires { ⌜ Sized (g .latitude) × Sized (g .longitude) × StepsWithin 20000000 s ⌝ }
-    ensures { λ r. ⌜ r ≡ gentle g s ⌝ }
+    ensures { λ r. ⌜ r ≡ slopePasses g s ⌝ }
 {
     let p = g.latitude.spacing;
     let q = g.longitude.spacing;

@@ -1,3 +1,3 @@
 -- Laws of the walk along a row, for its functions and for the crate above.
 pub mod Readings
-pub mod Turns
+pub mod Folds

@@ -1,1 +1,2 @@
+-- What the contracts of the walk along a row cite.
 pub mod Walk

@@ -32,22 +32,22 @@ unfoldable pub raised : Steps → (here west south : ℤ) → Steps
 raised s here west south = record { north = max (s .north) (natAbs (here -ℤ south)); east = max (s .east) (natAbs (here -ℤ west)) }
 
 -- The same of the three values.
-unfoldable pub widened : Findings → (here west south : Node) → Findings
-widened f here west south =
+unfoldable pub raisedAll : Findings → (here west south : Node) → Findings
+raisedAll f here west south =
     record {
       latitude = raised (f .latitude) (here .latitude) (west .latitude) (south .latitude);
       longitude = raised (f .longitude) (here .longitude) (west .longitude) (south .longitude);
       height = raised (f .height) (here .height) (west .height) (south .height);
     }
 
--- n turns, each from the one before: turn 0 from a.
-unfoldable pub turns : {A : Type 0} → ℕ → (ℕ → A → A) → A → A
-turns zero step a = a
-turns (suc n) step a = step n (turns n step a)
+-- A fold up to n: steps 0, 1, … n − 1 in turn, each from what the one before gave, the first from a.
+unfoldable pub foldUpTo : {A : Type 0} → ℕ → (ℕ → A → A) → A → A
+foldUpTo zero step a = a
+foldUpTo (suc n) step a = step n (foldUpTo n step a)
 
 -- Along a row: nodes by column, and those of the row to the south.
 unfoldable pub along : (south row : ℕ → Node) (columns : ℕ) → Findings → Findings
-along south row columns = turns columns (λ column found. widened found (row column) (row (column - 1)) (south column))
+along south row columns = foldUpTo columns (λ column found. raisedAll found (row column) (row (column - 1)) (south column))
 
 -- The same over the parts of an image that begin at the two rows' first nodes.
 abbrev pub rowFindings : (south row : List ℕ) (columns : ℕ) → Findings → Findings

@@ -1,15 +1,16 @@
 // The steps between neighbouring nodes along a row, with question 9 of each node.
 use nodes::node_of;
 use nodes::node_passes;
+use numbers::larger;
 use numbers::magnitude;
 use rules::Findings;
 use rules::Node;
 use rules::Steps;
 ghost use mathlib.Core.Path.{_≡_};
-ghost use Prim.Native.Nat.{_*_, _≤_, max};
+ghost use Prim.Native.Nat.{_*_, _≤_};
 ghost use lib.IntN.{natAbs};
 ghost use lib.ListN.{length};
-ghost use Rattle.steps.specs.Walk.{walkOf, Narrow, noSteps, raised, widened, rowPasses, rowFindings};
+ghost use Rattle.steps.specs.Walk.{walkOf, Narrow, noSteps, raised, raisedAll, rowPasses, rowFindings};
 
 // What a walk over nodes finds: all are within question 9's limits, with the largest steps so far; or one is beyond them.
 pub enum Walk {
@@ -30,7 +31,7 @@ pub fn walk_row(south: &[u8], row: &[u8], columns: u64, before: Findings) -> Wal
         if !node_passes(here) {
             return Walk::Beyond;
         }
-        found = widen(found, here, west, node_of(south, column));
+        found = raise_all(found, here, west, node_of(south, column));
         west = here;
         column += 1;
     }
@@ -50,9 +51,9 @@ pub fn no_steps() -> Findings
 }
 
 // The largest steps with those to one more node, from its western and its southern neighbour.
-fn widen(found: Findings, here: Node, west: Node, south: Node) -> Findings
+fn raise_all(found: Findings, here: Node, west: Node, south: Node) -> Findings
     requires { ⌜ Narrow here × Narrow west × Narrow south ⌝ }
-    ensures { λ r. ⌜ r ≡ widened found here west south ⌝ }
+    ensures { λ r. ⌜ r ≡ raisedAll found here west south ⌝ }
 {
     let a = found.latitude;
     let b = found.longitude;
@@ -75,11 +76,4 @@ fn raise(found: Steps, here: i64, west: i64, south: i64) -> Steps
     let north = larger(found.north, magnitude(here - south));
     let east = larger(found.east, magnitude(here - west));
     Steps { north, east }
-}
-
-// The larger of two numbers.
-fn larger(a: u64, b: u64) -> u64
-    ensures { λ r. ⌜ r ≡ max a b ⌝ }
-{
-    if a < b { b } else { a }
 }

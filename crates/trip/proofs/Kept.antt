@@ -14,9 +14,9 @@ use Rattle.rules.specs.Check.{gridCheck}
 use Rattle.rules.specs.Promise.{Inside, OutAndBack}
 use Rattle.returning.specs.Return.{promise}
 use Rattle.trip.specs.declared.Trip.{Trip}
-use Rattle.trip.specs.declared.Tripped.{Tripped}
-use Rattle.trip.specs.declared.Tripped.the-variants as tripped
-use Rattle.trip.specs.Trip.{trip, outAndBack, returnOf, trippedOf, Returns, Keeps}
+use Rattle.trip.specs.declared.TripAnswer.{TripAnswer}
+use Rattle.trip.specs.declared.TripAnswer.the-variants as trip-answer
+use Rattle.trip.specs.Trip.{trip, outAndBack, returnOf, tripOf, Returns, Keeps}
 
 module _ (b : List ℕ) (p : Point) (h : ℤ) (g : Geometry) (f : Findings)
     (opens : opening b ≡ values g) (passes : gridCheck b ≡ values f) (inside : Inside 10000000 g p) (limit : natAbs h ≤ 100000000)
@@ -25,17 +25,17 @@ module _ (b : List ℕ) (p : Point) (h : ℤ) (g : Geometry) (f : Findings)
     promised = promise b g f opens passes .fixes p h inside limit
 
     -- the values of the trip
-    there : Trip
-    there = let o = promised in record { there = position (o .bessel) (o .nap) (o .count); again = position (o .returned) h 1 }
+    promised-trip : Trip
+    promised-trip = let o = promised in record { outward = position (o .bessel) (o .nap) (o .count); returned = position (o .returned) h 1 }
 
-    returns-so : Returns p h there
-    unfolding there
+    returns-so : Returns p h promised-trip
+    unfolding promised-trip
     returns-so = let o = promised in record { at-least-one = o .at-least-one; at-most-five = o .at-most-five; angles = o .angles; height = λ i. h }
 
-    trip-is : trip b p h ≡ values there
-    unfolding trip outAndBack returnOf there
+    trip-is : trip b p h ≡ values promised-trip
+    unfolding trip outAndBack returnOf promised-trip
     trip-is = let o = promised in rw (passes, o .answered, o .back-again)
 
-    pub kept : (r : Tripped) → trippedOf r ≡ trip b p h → Keeps p h r
-    kept (tripped.Returned t) e = let k : there ≡ t = cc (trip-is) in rw k at returns-so
-    kept (tripped.Refused r) e = let z : _≡_ {A = ℕ} 0 1 = cc (trip-is) in omega arith
+    pub kept : (r : TripAnswer) → tripOf r ≡ trip b p h → Keeps p h r
+    kept (trip-answer.Returned t) e = let k : promised-trip ≡ t = cc (trip-is) in rw k at returns-so
+    kept (trip-answer.Refused r) e = let z : _≡_ {A = ℕ} 0 1 = cc (trip-is) in omega arith

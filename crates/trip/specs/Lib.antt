@@ -1,1 +1,2 @@
+-- What the contract of a trip cites.
 pub mod Trip

@@ -10,15 +10,15 @@ use Rattle.rules.specs.Ways.{wayBack, wayOut}
 use Rattle.rules.specs.Check.{gridCheck}
 use Rattle.rules.specs.Promise.{Within}
 use Rattle.trip.specs.declared.Trip.{Trip}
-use Rattle.trip.specs.declared.Tripped.{Tripped}
-use Rattle.trip.specs.declared.Tripped.the-variants as tripped
+use Rattle.trip.specs.declared.TripAnswer.{TripAnswer}
+use Rattle.trip.specs.declared.TripAnswer.the-variants as trip-answer
 
 abbrev pub pointOf : Position → Point
 pointOf a = record { latitude = a .latitude; longitude = a .longitude }
 
 -- The second way takes the two angles and the height that the first one answered.
 unfoldable pub returnOf : List ℕ → Position → Outcome Trip
-returnOf b a = andThen (wayBack b (pointOf a) (a .height)) (λ r. values (record { there = a; again = r }))
+returnOf b a = andThen (wayBack b (pointOf a) (a .height)) (λ r. values (record { outward = a; returned = r }))
 
 unfoldable pub outAndBack : List ℕ → Point → ℤ → Outcome Trip
 outAndBack b p h = andThen (wayOut b p h) (λ a. returnOf b a)
@@ -27,17 +27,17 @@ unfoldable pub trip : List ℕ → Point → ℤ → Outcome Trip
 trip b p h = andThen (gridCheck b) (λ f. outAndBack b p h)
 
 -- The number or the values of the code's answer, case by case.
-abbrev pub trippedOf : Tripped → Outcome Trip
-trippedOf (tripped.Returned t) = values t
-trippedOf (tripped.Refused r) = number (numberOf r)
+abbrev pub tripOf : TripAnswer → Outcome Trip
+tripOf (trip-answer.Returned t) = values t
+tripOf (trip-answer.Refused r) = number (numberOf r)
 
 -- What the promise says of the values: at most five evaluations, each angle within 1 nd of the fix's, the fix's height exactly.
 pub record Returns (p : Point) (h : ℤ) (t : Trip) : Type 0 where
-  pub at-least-one : 1 ≤ t .there .count
-  pub at-most-five : t .there .count ≤ 5
-  pub angles : Within 1 (pointOf (t .again)) p
-  pub height : t .again .height ≡ h
+  pub at-least-one : 1 ≤ t .outward .count
+  pub at-most-five : t .outward .count ≤ 5
+  pub angles : Within 1 (pointOf (t .returned)) p
+  pub height : t .returned .height ≡ h
 
-abbrev pub Keeps : Point → ℤ → Tripped → Type 0
-Keeps p h (tripped.Returned t) = Returns p h t
-Keeps p h (tripped.Refused r) = ⊥
+abbrev pub Keeps : Point → ℤ → TripAnswer → Type 0
+Keeps p h (trip-answer.Returned t) = Returns p h t
+Keeps p h (trip-answer.Refused r) = ⊥

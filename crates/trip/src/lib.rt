@@ -1,12 +1,12 @@
 // The return promise on running code: grid check, way out and way back of one fix, in turn.
-use back::way_back;
-use out::way_out;
 use rules::Answer;
 use rules::Checked;
 use rules::Point;
 use rules::Position;
 use rules::Refusal;
+use rules::Way;
 use slopes::grid_check;
+use ways::convert;
 ghost use mathlib.Core.Path.{_≡_};
 ghost use Prim.Native.Nat.{_≤_};
 ghost use lib.IntN.{natAbs};
@@ -20,47 +20,50 @@ ghost use Rattle.trip.specs.Trip as rule;
 
 // The way out's answer, and what it gives when it is taken back.
 pub struct Trip {
-    pub there: Position,
-    pub again: Position,
+    pub outward: Position,
+    pub returned: Position,
 }
 
-pub enum Tripped {
+// What a trip answers.
+pub enum TripAnswer {
     Returned(Trip),
     Refused(Refusal),
 }
 
 // A trip over any image. Where the image passes the check, the fix is at least 10,000,000 nd inside and its height in limits,
 // the trip returns, as the return promise says.
-pub fn round_trip(image: &[u8], p: Point, height: i64) -> Tripped
-    ensures values { λ r. ⌜ rule.trippedOf r ≡ rule.trip (now (image .entry)) p height ⌝ }
+pub fn round_trip(image: &[u8], p: Point, height: i64) -> TripAnswer
+    ensures values { λ r. ⌜ rule.tripOf r ≡ rule.trip (now (image .entry)) p height ⌝ }
     ensures promise { λ r. ⌜ ((g : Geometry) (f : Findings) → opening (now (image .entry)) ≡ values g → gridCheck (now (image .entry)) ≡ values f → Inside 10000000 g p → natAbs height ≤ 100000000 → rule.Keeps p height r) ⌝ }
 {
     match grid_check(image) {
         Checked::Passed(_) => out_and_back(image, p, height),
-        Checked::Refused(r) => Tripped::Refused(r),
+        Checked::Refused(r) => TripAnswer::Refused(r),
     }
 }
 
-fn out_and_back(image: &[u8], p: Point, height: i64) -> Tripped
-    ensures { λ r. ⌜ rule.trippedOf r ≡ rule.outAndBack (now (image .entry)) p height ⌝ }
+// The trip without the check.
+fn out_and_back(image: &[u8], p: Point, height: i64) -> TripAnswer
+    ensures { λ r. ⌜ rule.tripOf r ≡ rule.outAndBack (now (image .entry)) p height ⌝ }
 {
-    match way_out(image, p, height) {
+    match convert(Way::Out, image, p, height) {
         Answer::Values(a) => taken_back(image, a),
-        Answer::Refused(r) => Tripped::Refused(r),
+        Answer::Refused(r) => TripAnswer::Refused(r),
     }
 }
 
-fn taken_back(image: &[u8], there: Position) -> Tripped
-    ensures { λ r. ⌜ rule.trippedOf r ≡ rule.returnOf (now (image .entry)) there ⌝ }
+// The way back of what the way out answered.
+fn taken_back(image: &[u8], outward: Position) -> TripAnswer
+    ensures { λ r. ⌜ rule.tripOf r ≡ rule.returnOf (now (image .entry)) outward ⌝ }
 {
-    let latitude = there.latitude;
-    let longitude = there.longitude;
+    let latitude = outward.latitude;
+    let longitude = outward.longitude;
     let q = Point {
         latitude,
         longitude,
     };
-    match way_back(image, q, there.height) {
-        Answer::Values(again) => Tripped::Returned(Trip { there, again }),
-        Answer::Refused(r) => Tripped::Refused(r),
+    match convert(Way::Back, image, q, outward.height) {
+        Answer::Values(returned) => TripAnswer::Returned(Trip { outward, returned }),
+        Answer::Refused(r) => TripAnswer::Refused(r),
     }
 }

@@ -1,4 +1,4 @@
--- `back::added` meets its contract: the sums are small, so each fits. Assumes nothing.
+-- `back::added` meets its contract: the sums are small, so each fits.
 use native.Mathlib.Omega.{arith}
 use Rattle.integers.specs.Machine.{sum-fits, sum-back}
 use Rattle.rules.specs.Ways.{plus}

@@ -1,19 +1,19 @@
--- `bilinear::above` meets its contract. Assumes nothing.
+-- `bilinear::above` meets its contract.
 use lib.IntN.{natAbs, _-ℤ_}
 use mir.Syntax.{w64}
 use mir.Val.{toZ, ofZ}
 use Rattle.integers.specs.Difference.{Difference, var, lit, _⊕_, _⊖_}
 use Rattle.integers.specs.Distance.{abs-is}
-use Rattle.integers.specs.Machine.{zarith, read, back}
+use Rattle.integers.specs.Machine.{zarith, read-parameter, read-back}
 use Rattle.bilinear.proofs.above.Statement.{statement}
 use Rattle.bilinear.proofs.above.Tie as tie
 
 sub-result : tie.Need-sub-result
-sub-result c = omega (zarith, read (c .fits .x) ⊖ read (c .fits .least), abs-is (var (c .args .x)), abs-is (var (c .args .least)))
+sub-result c = omega (zarith, read-parameter (c .fits .x) ⊖ read-parameter (c .fits .least), abs-is (var (c .args .x)), abs-is (var (c .args .least)))
 
 -- the difference as the machine reads it back
 gap : (c : tie.Start) → Difference (toZ w64 (ofZ w64 (toZ w64 (ofZ w64 (c .args .x)) -ℤ toZ w64 (ofZ w64 (c .args .least)))))
-gap c = back (sub-result c) (read (c .fits .x) ⊖ read (c .fits .least))
+gap c = read-back (sub-result c) (read-parameter (c .fits .x) ⊖ read-parameter (c .fits .least))
 
 cast-result : tie.Need-cast-result
 unfolding gap

@@ -1,4 +1,4 @@
--- `bilinear::divided_at_once` meets its contract: the mix is at most 1.844 × 10^19, and half the area at most 5 × 10^15. Assumes nothing.
+-- `bilinear::divided_at_once` meets its contract: the mix is at most 1.844 × 10^19, and half the area at most 5 × 10^15.
 use native.Mathlib.Omega.{arith}
 use borrow.Author.Needs.{needs}
 use Rattle.bilinear.specs.Mean.{quotient}
@@ -17,7 +17,7 @@ div-result c = let pre = c .before .pre in area-least (pre .1) (pre .2)
 
 returns : tie.Need-returns
 unfolding quotient
-returns c = rw (c .blend .ensures) (half-added _ _ (div-result c))
+returns c = rw (c .mix .ensures) (half-added _ _ (div-result c))
 
 pub divided-at-once-spec : {M : Type 1} → statement M
 divided-at-once-spec = tie.close (tie.spec mul-area (λ c κs. search needs) add-result div-result returns)

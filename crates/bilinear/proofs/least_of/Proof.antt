@@ -1,4 +1,4 @@
--- `bilinear::least_of` meets its contract: the lesser of the lesser ones of both rows. Assumes nothing.
+-- `bilinear::least_of` meets its contract: the lesser of the lesser ones of both rows.
 use mathlib.Core.Path.{_∙_}
 use mir.Syntax.{w64}
 use Rattle.integers.specs.Machine.{told}

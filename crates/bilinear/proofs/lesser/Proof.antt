@@ -1,4 +1,4 @@
--- `bilinear::lesser` meets its contract: the test is on the numbers themselves, read back from their bits. Assumes nothing.
+-- `bilinear::lesser` meets its contract: the test is on the numbers themselves, read back from their bits.
 use mir.Syntax.{w64}
 use Rattle.integers.specs.Machine.{kept, plain-le}
 use Rattle.bilinear.proofs.lesser.Statement.{statement}

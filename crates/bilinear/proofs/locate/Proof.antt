@@ -1,6 +1,5 @@
--- `bilinear::locate` meets its contract: the cell starts at or before the offset. Assumes nothing.
-use mathlib.Core.Path.{ap}
-use Prim.Native.Nat.{ℕ, _-_, _*_, _≤_}
+-- `bilinear::locate` meets its contract: the cell starts at or before the offset.
+use Prim.Native.Nat.{_-_, _*_, _≤_}
 use native.Mathlib.Omega.{arith}
 use Rattle.rules.specs.Bilinear.{cellOf, partOf}
 use Rattle.rules.proofs.Cells.{cell-start}
@@ -21,7 +20,7 @@ sub-part c = start c
 returns : tie.Need-returns
 unfolding cellOf partOf
 returns c = let s = c .before .before .before .before .args in
-    (c .before .smaller .ensures, ap (λ (n : ℕ). s .x - n * s .a .spacing) (c .before .smaller .ensures))
+    λ i. record { cell = c .before .smaller .ensures i; part = s .x - c .before .smaller .ensures i * s .a .spacing }
 
 pub locate-spec : {M : Type 1} → statement M
 locate-spec =

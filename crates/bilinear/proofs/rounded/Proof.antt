@@ -1,4 +1,4 @@
--- `bilinear::rounded` meets its contract: the tests say which of 0, 1 and 2 the quotient is. Assumes nothing.
+-- `bilinear::rounded` meets its contract: the tests say which of 0, 1 and 2 the quotient is.
 use mathlib.Core.Path.{sym}
 use Prim.Native.Nat.{_+_, _*_}
 use native.Mathlib.Omega.{arith}

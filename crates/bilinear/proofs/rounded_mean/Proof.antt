@@ -1,4 +1,4 @@
--- `bilinear::rounded_mean` meets its contract: where the test holds, p times the larger mix is at most 17,585,000,000,000 × 2^20. Assumes nothing.
+-- `bilinear::rounded_mean` meets its contract: where the test holds, p times the larger mix is at most 17,585,000,000,000 × 2^20.
 use native.Mathlib.Nat.{mul-le-mul, mul-le-mul-left}
 use native.Mathlib.Omega.{arith}
 use Prim.Native.Nat.{_+_, _*_, _/_, _≤_}
@@ -8,13 +8,13 @@ use Rattle.bilinear.proofs.Rounding.{mixable, mix-le}
 use Rattle.bilinear.proofs.rounded_mean.Statement.{statement}
 use Rattle.bilinear.proofs.rounded_mean.Tie as tie
 
-blend-requires : tie.Need-blend-requires
-blend-requires c κs = let cell = c .pre .1 in mixable (cell .east) (cell .width .most) (omega arith) (omega arith)
+mix-requires : tie.Need-mix-requires
+mix-requires c κs = let cell = c .pre .1 in mixable (cell .east) (cell .longitude-spacing .most) (omega arith) (omega arith)
 
-blend-requires-2 : tie.Need-blend-requires-2
-blend-requires-2 c κs = let cell = c .before .pre .1 in mixable (cell .east) (cell .width .most) (omega arith) (omega arith)
+mix-requires-2 : tie.Need-mix-requires-2
+mix-requires-2 c κs = let cell = c .before .pre .1 in mixable (cell .east) (cell .longitude-spacing .most) (omega arith) (omega arith)
 
-rows : (c : tie.After-blend2) → let s = c .before .before .args in Rows (c .before .blend .result) (c .blend2 .result) (s .u) (s .p) (s .q)
+rows : (c : tie.After-mix2) → let s = c .before .before .args in Rows (c .before .mix .result) (c .mix2 .result) (s .u) (s .p) (s .q)
 rows c =
     let most = c .before .before .pre .0 in
     let cell = c .before .before .pre .1 in
@@ -25,7 +25,7 @@ mul-if1 : tie.Need-mul-if1
 mul-if1 c =
     let r = rows (c .before) in
     let few : c .larger .result / 1048576 + 1 ≤ 2000000000 = omega arith in
-    omega (arith, mul-le-mul (r .height .most) few)
+    omega (arith, mul-le-mul (r .latitude-spacing .most) few)
 
 divided-at-once-requires : tie.Need-divided-at-once-requires
 divided-at-once-requires c κs =
@@ -36,8 +36,8 @@ divided-at-once-requires c κs =
         part = r .north;
         most = rw (← c .before .larger .ensures) (omega (arith, mul-le-mul-left (c .before .before .before .before .args .p) up));
       },
-      r .height,
-      r .width,
+      r .latitude-spacing,
+      r .longitude-spacing,
     )
 
 returns : tie.Need-returns
@@ -53,8 +53,8 @@ pub rounded-mean-spec : {M : Type 1} → statement M
 rounded-mean-spec =
     tie.close
     (tie.spec
-    blend-requires
-    blend-requires-2
+    mix-requires
+    mix-requires-2
     (λ c κs. search needs)
     (λ c. search needs)
     mul-if1

@@ -1,4 +1,4 @@
--- `bilinear::weigh` meets its contract: the value lies above the least corner by the mean of what lies above it at the corners. Assumes nothing.
+-- `bilinear::weigh` meets its contract: the value lies above the least corner by the mean of what lies above it at the corners.
 use mathlib.Core.Path.{_≡_, sym, ap, _∙_}
 use Prim.Native.Nat.{_≤_}
 use native.Mathlib.Omega.{arith}

@@ -1,12 +1,11 @@
--- `fixes::convert_all` meets its contract. The invariant: the first k answers are written. Assumes nothing.
+-- `fixes::convert_all` meets its contract. The invariant: the first k answers are written.
 use mathlib.Core.Path.{_≡_, sym, _∙_}
 use Prim.Native.Nat.{_*_, _/_, _-_, _≤_}
 use native.Mathlib.Omega.{arith}
 use lib.ListN.{length, length-take, length-drop}
-use Rattle.rules.specs.Answers.{answerOf}
 use Rattle.rules.specs.Image.{gridOf}
-use Rattle.rules.specs.Ways.{sourceOf}
-use Rattle.fixes.specs.Conversion.{wayOf, pointAt, heightAt}
+use Rattle.rules.specs.Ways.{sourceOf, convertOver, answerOf}
+use Rattle.fixes.specs.Fix.{pointAt, heightAt}
 use Rattle.fixes.proofs.Counts.{count-fits}
 use Rattle.fixes.proofs.Lengths.{same-n}
 use Rattle.fixes.proofs.Answers.{Written, written-none, written-more, written-all}
@@ -15,7 +14,7 @@ use Rattle.fixes.proofs.convert_all.Tie as tie
 
 abbrev Inv-loop : tie.InvT-loop
 Inv-loop way image g fixes answers₀ n k₀ answers k =
-    (k ≤ n) × (length answers ≡ 5 * n) × Written (wayOf way (sourceOf (gridOf image g))) fixes answers k
+    (k ≤ n) × (length answers ≡ 5 * n) × Written (convertOver way (sourceOf (gridOf image g))) fixes answers k
 
 abbrev μ-loop : tie.MeasureT-loop
 μ-loop way image g fixes answers₀ n k₀ answers k = n - k
@@ -25,7 +24,7 @@ loop-holds c = (omega arith, same-n _ _ (c .before .pre .1) .1, written-none _ _
 
 -- the answer that this turn writes is that of fix k
 answered : (c : tie.After-convert-fix Inv-loop μ-loop) → let l = c .before .before in let s = l .before .before .args in
-    answerOf (c .convert-fix .result) ≡ wayOf (s .way) (sourceOf (gridOf (s .image .now) (s .g))) (pointAt (s .fixes .now) (l .loop .k)) (heightAt (s .fixes .now) (l .loop .k))
+    answerOf (c .convert-fix .result) ≡ convertOver (s .way) (sourceOf (gridOf (s .image .now) (s .g))) (pointAt (s .fixes .now) (l .loop .k)) (heightAt (s .fixes .now) (l .loop .k))
 answered c = c .convert-fix .ensures
 
 convert-fix-requires : tie.Need-convert-fix-requires Inv-loop μ-loop

@@ -1,4 +1,4 @@
--- `fixes::convert_list` meets its contract: a question's no gives its number and leaves the answers; else all are written. Assumes nothing.
+-- `fixes::convert_list` meets its contract: a question's no gives its number and leaves the answers; else all are written.
 use borrow.Author.Needs.{needs}
 use borrow.Author.Tests.{not-true, not-false}
 use mathlib.Core.Bool.{Bool}
@@ -7,9 +7,9 @@ use denote.Ref.{now}
 use lib.ListN.{length}
 use mir.Syntax.{w64}
 use Rattle.integers.specs.Machine.{told}
-use Rattle.rules.specs.Answers.{values, number, numberOf, openedOf}
+use Rattle.rules.specs.Answers.{values, number, numberOf}
 use Rattle.rules.specs.Lists.{question14, convertList}
-use Rattle.rules.specs.Questions.{opening}
+use Rattle.rules.specs.Questions.{opening, openedOf}
 use Rattle.fixes.proofs.convert_list.Statement.{statement}
 use Rattle.fixes.proofs.convert_list.Tie as tie
 

@@ -1,4 +1,4 @@
--- `fixes::lengths_pass` meets its contract: two tests, as question 14 has them. Assumes nothing.
+-- `fixes::lengths_pass` meets its contract: two tests, as question 14 has them.
 use mathlib.Core.Path.{refl}
 use borrow.Author.Needs.{needs}
 use borrow.Author.Tests.{eq-eqb, ne-eqb}

@@ -1,13 +1,10 @@
--- `fixes::list_back` meets its contract: the list call of this way. Assumes nothing.
+-- `fixes::list_back` meets its contract: the list call of this way.
 use mir.Syntax.{w64}
 use Rattle.integers.specs.Machine.{kept}
-use Rattle.rules.specs.Lists.{listBack}
-use Rattle.fixes.specs.Conversion.{wayOf}
 use Rattle.fixes.proofs.list_back.Statement.{statement}
 use Rattle.fixes.proofs.list_back.Tie as tie
 
 returns : tie.Need-returns
-unfolding listBack wayOf
 returns c =
     let l = c .before .convert-list in
     (rw (kept w64 (l .result) (l .ok)) (l .ensures .0), l .ensures .1)

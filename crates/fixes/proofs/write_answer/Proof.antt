@@ -1,5 +1,4 @@
 -- `fixes::write_answer` meets its contract: each arm is told which answer it has, and the five numbers that it stores are that answer's.
--- Assumes nothing.
 use borrow.Author.Needs.{needs}
 use Prim.Native.Nat.{_≤_}
 use mir.Facts.{toZ-pos}

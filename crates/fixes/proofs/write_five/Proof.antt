@@ -1,4 +1,4 @@
--- `fixes::write_five` meets its contract: five stores at the front of a list of five or more. Assumes nothing.
+-- `fixes::write_five` meets its contract: five stores at the front of a list of five or more.
 use borrow.Author.Needs.{needs}
 use mathlib.Core.List.{[], _∷_}
 use native.Mathlib.Omega.{arith}

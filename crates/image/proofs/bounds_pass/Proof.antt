@@ -1,4 +1,4 @@
--- `image::bounds_pass` meets its contract: each axis is what `bounds_within` ensures. Assumes nothing.
+-- `image::bounds_pass` meets its contract: each axis is what `bounds_within` ensures.
 use mathlib.Core.Path.{sym, _∙_}
 use Rattle.rules.specs.Questions.{question5}
 use borrow.Author.Needs.{needs}

@@ -1,4 +1,4 @@
--- `image::bounds_within` meets its contract: the first bound is tested before the second is computed, so the sum fits. Assumes nothing.
+-- `image::bounds_within` meets its contract: the first bound is tested before the second is computed, so the sum fits.
 use mathlib.Core.Path.{_≡_, sym, _∙_}
 use native.Mathlib.Nat.{le-trans}
 use borrow.Author.Tests.{leb-true}

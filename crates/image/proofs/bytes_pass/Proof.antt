@@ -1,4 +1,4 @@
--- `image::bytes_pass` meets its contract: after question 3 the product is small. Assumes nothing.
+-- `image::bytes_pass` meets its contract: after question 3 the product is small.
 use mathlib.Core.Path.{refl}
 use native.Mathlib.Omega.{arith}
 use borrow.Author.Tests.{eq-eqb, ne-eqb}

@@ -1,4 +1,4 @@
--- `image::counts_pass` meets its contract: each count is what `between_of` ensures. Assumes nothing.
+-- `image::counts_pass` meets its contract: each count is what `is_between` ensures.
 use mathlib.Core.Path.{sym, _∙_}
 use borrow.Author.Needs.{needs}
 use Rattle.rules.specs.Questions.{question3}

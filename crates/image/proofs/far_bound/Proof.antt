@@ -1,4 +1,4 @@
--- `image::far_bound` meets its contract: an axis's start and length are small, so their sum fits. Assumes nothing.
+-- `image::far_bound` meets its contract: an axis's start and length are small, so their sum fits.
 use Prim.Native.Nat.{_-_, _*_}
 use lib.IntN.{_+ℤ_}
 use mir.Val.{toZ, ofZ}
@@ -6,7 +6,7 @@ use mir.Syntax.{w64}
 use native.Mathlib.Omega.{arith}
 use Rattle.integers.specs.Difference.{Difference, var, lit, _⊕_}
 use Rattle.integers.specs.Distance.{size}
-use Rattle.integers.specs.Machine.{zarith, got, small, back}
+use Rattle.integers.specs.Machine.{zarith, read-result, read-cast, read-back}
 use Rattle.rules.proofs.Cells.{length-most}
 use borrow.Author.Needs.{needs}
 use Rattle.image.proofs.far_bound.Statement.{statement}
@@ -18,7 +18,7 @@ sum : (c : tie.After-struct-told) → let a = c .before .before .before .before 
 sum c =
     let s = c .before .before .before .before in
     let a = s .args .a in
-    got w64 (a .start) (c .struct-told .given .0 .1) ⊕ small w64 ((a .count - 1) * a .spacing) (omega (arith, length-most a (s .pre .1)))
+    read-result w64 (a .start) (c .struct-told .given .0 .1) ⊕ read-cast w64 ((a .count - 1) * a .spacing) (omega (arith, length-most a (s .pre .1)))
 
 mul-result : tie.Need-mul-result
 mul-result c = omega (arith, length-most (c .before .before .args .a) (c .before .before .pre .1))
@@ -33,7 +33,7 @@ add-result c = let s = c .before .before .before .before in omega (zarith, sum c
 returns : tie.Need-returns
 unfolding sum
 returns c = let a = c .before .before .before .before .args .a in
-    omega (zarith, back (add-result c) (sum c), var (a .start) ⊕ lit ((a .count - 1) * a .spacing))
+    omega (zarith, read-back (add-result c) (sum c), var (a .start) ⊕ lit ((a .count - 1) * a .spacing))
 
 pub far-bound-spec : {M : Type 1} → statement M
 far-bound-spec = tie.close (tie.spec (λ c. search needs) mul-result cast-result add-result returns)

@@ -1,4 +1,4 @@
--- `image::judged` meets its contract: each return is one question's no, with the questions before it yes. Assumes nothing.
+-- `image::judged` meets its contract: each return is one question's no, with the questions before it yes.
 use mathlib.Core.Bool.{true}
 use mathlib.Core.Path.{_≡_, refl, sym, _∙_}
 use borrow.Author.Tests.{not-true, not-false}

@@ -1,4 +1,4 @@
--- `image::open` meets its contract: question 1 here, the others by `judged`. Assumes nothing.
+-- `image::open` meets its contract: question 1 here, the others by `judged`.
 use Prim.Native.Nat.{_≤_, _<_}
 use native.Mathlib.Omega.{arith}
 use lib.ListN.{length}

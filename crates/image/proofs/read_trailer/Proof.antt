@@ -1,4 +1,4 @@
--- `image::read_trailer` meets its contract: from what the readings ensure. Assumes nothing.
+-- `image::read_trailer` meets its contract: from what the readings ensure.
 use mir.Syntax.{w64}
 use Rattle.integers.specs.Machine.{kept}
 use Rattle.rules.specs.Image.{trailerOf}

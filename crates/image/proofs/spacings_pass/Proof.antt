@@ -1,4 +1,4 @@
--- `image::spacings_pass` meets its contract: each spacing is what `between_of` ensures. Assumes nothing.
+-- `image::spacings_pass` meets its contract: each spacing is what `is_between` ensures.
 use mathlib.Core.Path.{sym, _∙_}
 use borrow.Author.Needs.{needs}
 use Rattle.rules.specs.Questions.{question4}

@@ -1,4 +1,4 @@
--- `lookup::in_bounds` meets its contract: each axis is what `on_axis` ensures. Assumes nothing.
+-- `lookup::in_bounds` meets its contract: each axis is what `on_axis` ensures.
 use mathlib.Core.Path.{_≡_, sym, _∙_}
 use mir.Syntax.{w64}
 use Rattle.integers.specs.Machine.{kept}

@@ -1,4 +1,4 @@
--- `lookup::is_reached` meets its contract: both tests are on the numbers themselves. Assumes nothing.
+-- `lookup::is_reached` meets its contract: both tests are on the numbers themselves.
 use borrow.Author.Tests.{le-leb, lt-leb}
 use Rattle.lookup.specs.Values.{reaches}
 use Rattle.lookup.proofs.is_reached.Statement.{statement}

@@ -1,4 +1,4 @@
--- `lookup::lies_in` meets its contract: each axis is what `is_reached` ensures of the offset there. Assumes nothing.
+-- `lookup::lies_in` meets its contract: each axis is what `is_reached` ensures of the offset there.
 use mathlib.Core.Path.{_≡_, sym, _∙_}
 use borrow.Author.Needs.{needs}
 use Rattle.lookup.specs.Values.{offsetsOf, reaches, liesIn}

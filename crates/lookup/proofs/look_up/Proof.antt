@@ -1,10 +1,11 @@
--- `lookup::look_up` meets its contract: question 9 as the cell around the point answers it, then the values there. Assumes nothing.
+-- `lookup::look_up` meets its contract: question 9 as the cell around the point answers it, then the values there.
 use mathlib.Core.Path.{sym, ap, _∙_}
 use borrow.Author.Tests.{not-true, not-false}
 use denote.Ref.{now}
 use Rattle.rules.specs.Answers.{values}
 use Rattle.rules.specs.Image.{gridOf}
-use Rattle.rules.proofs.Opening.{opened, answered-yes, answered-no}
+use Rattle.rules.proofs.Opening.{opened}
+use Rattle.rules.proofs.Answers.{answered-yes, answered-no}
 use Rattle.lookup.proofs.Found.{lookup-in, cell-holds}
 use borrow.Author.Needs.{needs}
 use Rattle.lookup.proofs.look_up.Statement.{statement}

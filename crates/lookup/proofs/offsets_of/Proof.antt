@@ -1,4 +1,4 @@
--- `lookup::offsets_of` meets its contract: each offset is what `offset_on` ensures of an angle on its axis. Assumes nothing.
+-- `lookup::offsets_of` meets its contract: each offset is what `offset_on` ensures of an angle on its axis.
 use mathlib.Core.Path.{_≡_}
 use native.Mathlib.Omega.{arith}
 use mir.Syntax.{w64}

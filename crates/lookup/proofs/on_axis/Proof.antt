@@ -1,10 +1,9 @@
--- `lookup::on_axis` meets its contract: both tests are on the numbers themselves, read back from their bits. Assumes nothing.
+-- `lookup::on_axis` meets its contract: both tests are on the numbers themselves, read back from their bits.
 use mathlib.Core.Path.{refl}
 use mir.Syntax.{w64}
-use borrow.Author.Needs.{sfits-of}
 use Rattle.integers.specs.Machine.{kept, plain-le}
 use Rattle.rules.specs.Lookup.{onAxis}
-use borrow.Author.Needs.{needs}
+use borrow.Author.Needs.{needs, sfits-of}
 use Rattle.lookup.proofs.on_axis.Statement.{statement}
 use Rattle.lookup.proofs.on_axis.Tie as tie
 

@@ -1,4 +1,4 @@
--- `lookup::values_in` meets its contract: the corrections and the height, as they were computed. Assumes nothing.
+-- `lookup::values_in` meets its contract: the corrections and the height, as they were computed.
 use mathlib.Core.Path.{ap, _∙_}
 use mir.Syntax.{w64}
 use Rattle.integers.specs.Machine.{kept, told}

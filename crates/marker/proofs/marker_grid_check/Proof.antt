@@ -1,4 +1,4 @@
--- `marker::marker_grid_check` meets its contract: the findings of a passed check are small, so each fits. Assumes nothing.
+-- `marker::marker_grid_check` meets its contract: the findings of a passed check are small, so each fits.
 use mathlib.Core.List.{[], _∷_}
 use mathlib.Core.Path.{_≡_, sym, ap, _∙_}
 use native.Mathlib.Omega.{arith}
@@ -6,8 +6,8 @@ use denote.Ref.{now}
 use mir.Syntax.{w64}
 use mir.ValLaws.{toZ-pos}
 use Rattle.integers.specs.Machine.{zarith, told}
-use Rattle.rules.specs.Answers.{values, checkedOf}
-use Rattle.rules.specs.Check.{gridCheck}
+use Rattle.rules.specs.Answers.{values}
+use Rattle.rules.specs.Check.{gridCheck, checkedOf}
 use Rattle.slopes.specs.Rows.{FindingsWithin}
 use Rattle.slopes.proofs.Maxima.{passed-small}
 use borrow.Author.Needs.{needs}

@@ -1,9 +1,8 @@
--- `marker::marker_read_notation` meets its contract: from what `read_notation` ensures. Assumes nothing.
+-- `marker::marker_read_notation` meets its contract: from what `read_notation` ensures.
 use mathlib.Core.Path.{_≡_, sym, ap, _∙_}
 use mir.Syntax.{w64}
 use Rattle.integers.specs.Machine.{kept, told}
-use Rattle.rules.specs.Answers.{readingOf}
-use Rattle.rules.specs.Notation.{readNotation}
+use Rattle.rules.specs.Notation.{readNotation, readingOf}
 use borrow.Author.Needs.{needs}
 use Rattle.marker.proofs.marker_read_notation.Statement.{statement}
 use Rattle.marker.proofs.marker_read_notation.Tie as tie

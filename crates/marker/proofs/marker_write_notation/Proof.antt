@@ -1,9 +1,9 @@
--- `marker::marker_write_notation` meets its contract: from what `write_notation` ensures. Assumes nothing.
+-- `marker::marker_write_notation` meets its contract: from what `write_notation` ensures.
 use mathlib.Core.Path.{_≡_, refl, sym, ap, _∙_}
 use mir.Syntax.{w64}
 use Rattle.integers.specs.Machine.{kept, told}
-use Rattle.rules.specs.Answers.{values, number, numberOf, writingOf}
-use Rattle.rules.specs.Notation.{writeNotation}
+use Rattle.rules.specs.Answers.{values, number, numberOf}
+use Rattle.rules.specs.Notation.{writeNotation, writingOf}
 use borrow.Author.Needs.{needs}
 use Rattle.marker.proofs.marker_write_notation.Statement.{statement}
 use Rattle.marker.proofs.marker_write_notation.Tie as tie

@@ -1,4 +1,4 @@
--- `nodes::both_pass` meets its contract: each half is what `node_passes` ensures. Assumes nothing.
+-- `nodes::both_pass` meets its contract: each half is what `node_passes` ensures.
 use mathlib.Core.Path.{sym, _∙_}
 use borrow.Author.Needs.{needs}
 use Rattle.nodes.proofs.both_pass.Statement.{statement}

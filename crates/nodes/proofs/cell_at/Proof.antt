@@ -1,4 +1,4 @@
--- `nodes::cell_at` meets its contract: each corner is what `node_at` ensures. Assumes nothing.
+-- `nodes::cell_at` meets its contract: each corner is what `node_at` ensures.
 use borrow.Author.Needs.{needs}
 use Rattle.nodes.specs.Cell.{cellAt}
 use Rattle.nodes.proofs.cell_at.Statement.{statement}

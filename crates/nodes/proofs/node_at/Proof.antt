@@ -1,10 +1,10 @@
--- `nodes::node_at` meets its contract: the row begins in the image and the node ends in it; a reading in the part is one in the image. Assumes nothing.
+-- `nodes::node_at` meets its contract: the row begins in the image and the node ends in it; a reading in the part is one in the image.
 use mathlib.Core.Path.{ap, _∙_}
 use Prim.Native.Nat.{ℕ, _+_, _-_, _*_, _≤_}
 use native.Mathlib.Omega.{arith}
-use lib.ListN.{length, take, drop, length-drop}
+use lib.ListN.{length, length-drop}
 use Rattle.nodes.specs.Cell.{nodeOf}
-use Rattle.nodes.proofs.Parts.{row-inside, part-from, node-in-row}
+use Rattle.nodes.proofs.Parts.{row-inside, partFrom, part-from, node-in-row}
 use borrow.Author.Needs.{needs}
 use Rattle.nodes.proofs.node_at.Statement.{statement}
 use Rattle.nodes.proofs.node_at.Tie as tie
@@ -29,7 +29,7 @@ node-of-requires c κs = rw (part-from _ _, length-drop) (inside (c .before) .0)
 returns : tie.Need-returns
 returns c = let s = c .before .before .before .before .args in
     c .node-of .ensures
-    ∙ ap (λ (n : ℕ). nodeOf (take (length (s .image .now) - n) (drop n (s .image .now))) (s .column)) (c .before .before .row-start .ensures)
+    ∙ ap (λ (n : ℕ). nodeOf (partFrom (s .image .now) n) (s .column)) (c .before .before .row-start .ensures)
     ∙ node-in-row (s .image .now) (s .g) (s .row) (s .column)
 
 pub node-at-spec : {M : Type 1} → statement M

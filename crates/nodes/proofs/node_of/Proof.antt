@@ -1,4 +1,4 @@
--- `nodes::node_of` meets its contract: from what `i32_at` ensures, thrice. Assumes nothing.
+-- `nodes::node_of` meets its contract: from what `i32_at` ensures, thrice.
 use borrow.Author.Needs.{needs}
 use Rattle.nodes.specs.Cell.{nodeOf}
 use mir.Syntax.{w64}

@@ -1,4 +1,4 @@
--- `nodes::node_passes` meets its contract: each value is what `is_within` ensures; the signed fields are read back from their bits. Assumes nothing.
+-- `nodes::node_passes` meets its contract: each value is what `is_within` ensures; the signed fields are read back from their bits.
 use mathlib.Core.Path.{_≡_, sym, _∙_}
 use mir.Syntax.{w64}
 use Rattle.integers.specs.Machine.{kept}

@@ -1,7 +1,6 @@
--- `nodes::row_start` meets its contract: a row lies before the trailer, so nothing wraps. Assumes nothing.
+-- `nodes::row_start` meets its contract: a row lies before the trailer, so nothing wraps.
 use native.Mathlib.Omega.{arith}
 use Rattle.nodes.proofs.Parts.{row-inside}
-use native.Mathlib.Omega.{arith}
 use borrow.Author.Needs.{needs}
 use Rattle.nodes.proofs.row_start.Statement.{statement}
 use Rattle.nodes.proofs.row_start.Tie as tie

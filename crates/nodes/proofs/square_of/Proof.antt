@@ -1,4 +1,4 @@
--- `nodes::square_of` meets its contract: each corner is what `value_of` ensures of its node. Assumes nothing.
+-- `nodes::square_of` meets its contract: each corner is what `value_of` ensures of its node.
 use mathlib.Core.List.{[], _∷_}
 use mir.Syntax.{w64}
 use Rattle.integers.specs.Machine.{told}

@@ -1,4 +1,4 @@
--- `nodes::value_of` meets its contract: each case's field is read back from its bits. Assumes nothing.
+-- `nodes::value_of` meets its contract: each case's field is read back from its bits.
 use mir.Syntax.{w64}
 use Rattle.integers.specs.Machine.{kept}
 use borrow.Author.Needs.{needs}

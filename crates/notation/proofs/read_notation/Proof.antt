@@ -10,7 +10,7 @@ use mir.Facts.{toZ-ofZ}
 use borrow.Author.Needs.{needs}
 use borrow.Author.Tests.{not-true, not-false}
 use Rattle.integers.specs.Difference.{lit, _⊖_}
-use Rattle.integers.specs.Machine.{zarith, range, got, told}
+use Rattle.integers.specs.Machine.{zarith, range, read-result, told}
 use Rattle.rules.specs.Answers.{values}
 use Rattle.rules.specs.Notation.{perDegree, total, magnitudeRead}
 use Rattle.notation.specs.Parts.{amountsFit, amounts, axis-most, read-in-parts}
@@ -41,7 +41,7 @@ size-is c = told w64 (c .size-of .ok) (c .size-of .ensures) ∙ ap (λ (t : ℕ)
 sub-t11 : tie.Need-sub-t11
 sub-t11 c =
     let s = c .before .before .before .size-of in
-    omega (zarith, lit 0 ⊖ got w64 (s .result) (s .ok), range {w = w64} {z = s .result} (record { sfits = s .ok }), s .ensures)
+    omega (zarith, lit 0 ⊖ read-result w64 (s .result) (s .ok), range {w = w64} {z = s .result} (record { sfits = s .ok }), s .ensures)
 
 returns-2 : tie.Need-returns-2
 returns-2 c =

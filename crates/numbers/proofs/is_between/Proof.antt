@@ -1,4 +1,4 @@
--- `numbers::is_between` meets its contract: the test decides the first half of `between`. Assumes nothing.
+-- `numbers::is_between` meets its contract: the test decides the first half of `between`.
 use mathlib.Core.Path.{refl}
 use Prim.Native.Nat.{_≤_, _<_}
 use native.Mathlib.Omega.{arith}

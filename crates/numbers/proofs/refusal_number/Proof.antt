@@ -1,8 +1,14 @@
--- `numbers::refusal_number` meets its contract: each arm is told which refusal it has. Assumes nothing.
-use mathlib.Core.Path.{refl}
+-- `numbers::refusal_number` meets its contract: each arm is told which refusal it has, and answers with that refusal's number.
+use mathlib.Core.Path.{_≡_}
+use lib.IntN.{ℤ, pos}
 use borrow.Author.Needs.{needs}
+use Rattle.rules.specs.declared.Refusal.{Refusal}
+use Rattle.rules.specs.Answers.{numberOf}
 use Rattle.numbers.proofs.refusal_number.Statement.{statement}
 use Rattle.numbers.proofs.refusal_number.Tie as tie
+
+arm : (r told : Refusal) (n : ℤ) → r ≡ told → n ≡ pos (numberOf told) → n ≡ pos (numberOf r)
+arm r told n e h = rw e h
 
 pub refusal-number-spec : {M : Type 1} → statement M
 refusal-number-spec =
@@ -22,17 +28,17 @@ refusal-number-spec =
     (λ c. search needs)
     (λ c. search needs)
     (λ c. search needs)
-    (λ c. rw (c .enum-told .given .1) refl)
-    (λ c. rw (c .enum-told2 .given .1) refl)
-    (λ c. rw (c .enum-told3 .given .1) refl)
-    (λ c. rw (c .enum-told4 .given .1) refl)
-    (λ c. rw (c .enum-told5 .given .1) refl)
-    (λ c. rw (c .enum-told6 .given .1) refl)
-    (λ c. rw (c .enum-told7 .given .1) refl)
-    (λ c. rw (c .enum-told8 .given .1) refl)
-    (λ c. rw (c .enum-told9 .given .1) refl)
-    (λ c. rw (c .enum-told10 .given .1) refl)
-    (λ c. rw (c .enum-told11 .given .1) refl)
-    (λ c. rw (c .enum-told12 .given .1) refl)
-    (λ c. rw (c .enum-told13 .given .1) refl)
-    (λ c. rw (c .enum-told14 .given .1) refl))
+    (λ c. search arm)
+    (λ c. search arm)
+    (λ c. search arm)
+    (λ c. search arm)
+    (λ c. search arm)
+    (λ c. search arm)
+    (λ c. search arm)
+    (λ c. search arm)
+    (λ c. search arm)
+    (λ c. search arm)
+    (λ c. search arm)
+    (λ c. search arm)
+    (λ c. search arm)
+    (λ c. search arm))

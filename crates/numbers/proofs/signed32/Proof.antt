@@ -1,4 +1,4 @@
--- `numbers::signed32` meets its contract: kept in the range, a sum below twice the range is as it was, or less by the range. Assumes nothing.
+-- `numbers::signed32` meets its contract: kept in the range, a sum below twice the range is as it was, or less by the range.
 use mathlib.Core.Bool.{Bool, true, false, cond}
 use mathlib.Core.Path.{_≡_, refl, _∙_}
 use Prim.Native.Nat.{ℕ, _+_, _%_, _<_}

@@ -1,6 +1,5 @@
 -- `opened::geometry_of` meets its contract: a walk of its MIR, by hand. A struct is read from a field of the record, and the record is seen at exit as it was passed.
 -- What a `Geometry` owns is facts alone: they are in the record's relation, at the field's place.
--- Assumes nothing.
 use mathlib.Core.Path.{refl}
 use mathlib.Core.List.{[], _∷_}
 use lib.Dec.{T as Holds}

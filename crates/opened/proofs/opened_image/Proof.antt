@@ -1,6 +1,5 @@
 -- `opened::opened_image` meets its contract: a walk of its MIR, by hand. An `OpenedImage` is made of the slice and the geometry passed, in the result's local.
 -- A `&[u8]` is Copy, so what it owns is had twice. What a `Geometry` owns is facts alone, so it is made anew.
--- Assumes nothing.
 use mathlib.Core.Path.{refl}
 use Prim.Native.Nat.{ℕ}
 use mathlib.Core.List.{List, [], _∷_}

@@ -1,11 +1,11 @@
--- `out::answer_at` meets its contract: the held cell is q's where q lies in it, and the one read is q's. Assumes nothing.
+-- `out::answer_at` meets its contract: the held cell is q's where q lies in it, and the one read is q's.
 use mathlib.Core.Path.{_≡_, sym, _∙_}
 use denote.Ref.{now}
 use lib.ListN.{length}
 use mir.Syntax.{w64}
 use Rattle.integers.specs.Machine.{kept}
 use Rattle.rules.specs.Image.{gridOf}
-use Rattle.rules.specs.Questions.{Open}
+use Rattle.rules.specs.Limits.{Open}
 use Rattle.rules.proofs.Opening.{opened}
 use Rattle.lookup.specs.Values.{heldAt}
 use Rattle.lookup.proofs.Found.{bounded, cell-holds}

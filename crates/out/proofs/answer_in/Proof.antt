@@ -1,11 +1,11 @@
--- `out::answer_in` meets its contract: question 9 as the cell answers it, then the height there, which is small. Assumes nothing.
+-- `out::answer_in` meets its contract: question 9 as the cell answers it, then the height there, which is small.
 use mathlib.Core.Bool.{true}
 use mathlib.Core.Path.{_≡_, sym, ap, _∙_}
 use borrow.Author.Tests.{not-true, not-false}
 use mir.Syntax.{w64}
 use Rattle.integers.specs.Machine.{kept}
 use Rattle.rules.specs.Answers.{values}
-use Rattle.rules.proofs.Opening.{answered-yes, answered-no}
+use Rattle.rules.proofs.Answers.{answered-yes, answered-no}
 use Rattle.lookup.specs.Values.{valuesIn}
 use Rattle.lookup.proofs.Found.{values-within}
 use Rattle.out.proofs.answer_in.Statement.{statement}

@@ -1,13 +1,15 @@
--- `out::evaluation` meets its contract: question 9 as r's cell answers it, then what p minus the corrections there leads to. Assumes nothing.
-use mathlib.Core.Bool.{true}
+-- `out::evaluation` meets its contract: question 9 as r's cell answers it, then what p minus the corrections there leads to.
+use mathlib.Core.Bool.{true, cond}
 use mathlib.Core.Path.{_≡_, sym, ap, _∙_}
+use native.Mathlib.Omega.{arith}
 use borrow.Author.Tests.{not-true, not-false}
+use Rattle.rules.specs.declared.Refusal.the-variants.{NodeLimits}
 use Rattle.rules.specs.Ways.{minus}
-use Rattle.rules.proofs.Opening.{answered-yes, answered-no}
-use Rattle.rules.proofs.Cells.{axis-within, on-latitude, on-longitude}
+use Rattle.rules.proofs.Cells.{point-within}
 use Rattle.lookup.specs.Values.{valuesIn, correctionsIn}
 use Rattle.lookup.proofs.Found.{values-within}
-use Rattle.out.specs.Turn.{judging}
+use Rattle.out.specs.declared.Turn.the-variants as turn
+use Rattle.out.specs.Turn.{turnOf, evaluationOf}
 use Rattle.out.proofs.evaluation.Statement.{statement}
 use Rattle.out.proofs.evaluation.Tie as tie
 
@@ -16,35 +18,36 @@ passes : (c : tie.Else1) → c .before .before .args .h .passes ≡ true
 passes c = not-false _ (c .if1 .left)
 
 returns : tie.Need-returns
-returns c = let s = c .before .before .args in
-    record { step = λ n more. answered-no (s .h .passes) 9 _ (not-true _ (c .if1 .taken)); leads = tt }
+unfolding evaluationOf
+returns c = let e = not-true (c .before .before .args .h .passes) (c .if1 .taken) in rw e
 
 corrections-in-requires : tie.Need-corrections-in-requires
 corrections-in-requires c κs = (passes c, c .before .before .pre .1)
 
+-- both points are within the limits of their angles, and the corrections within question 9's
 moved-requires : tie.Need-moved-requires
 unfolding valuesIn
 moved-requires c κs = let s = c .before .before .before in
     let b = s .pre .1 .bounded in
+    let p = point-within (s .args .g) (s .args .p) (b .latitude) (b .longitude) (s .pre .0) in
+    let r = point-within (s .args .g) (s .args .r) (b .latitude) (b .longitude) (b .point) in
     let w = values-within (passes (c .before)) (s .pre .1) in (
-      axis-within (b .latitude) _ (on-latitude (s .args .g) (s .args .p) (s .pre .0)),
-      axis-within (b .longitude) _ (on-longitude (s .args .g) (s .args .p) (s .pre .0)),
+      record { latitude = omega arith; longitude = omega arith },
       rw (c .corrections-in .ensures) (w .latitude),
       rw (c .corrections-in .ensures) (w .longitude),
     )
 
 judged-requires : tie.Need-judged-requires
-judged-requires c κs = let b = c .before .before .before .before .pre .1 .bounded in (b .latitude, b .longitude, b .point)
+judged-requires c κs = c .before .before .before .before .pre .1 .bounded
 
 returns-2 : tie.Need-returns-2
+unfolding evaluationOf
 returns-2 c =
     let t = c .before .before .before in
     let s = t .before .before .args in
-    let q : c .before .moved .result ≡ minus (s .p) (correctionsIn (s .h) (s .g) (s .r)) = c .before .moved .ensures ∙ ap (minus (s .p)) (c .before .before .corrections-in .ensures) in
-    record {
-      step = λ n more. answered-yes (s .h .passes) 9 _ (passes t) ∙ sym (λ i. judging (s .g) (s .r) (q i) n more) ∙ c .judged .ensures .step n more;
-      leads = c .judged .ensures .leads;
-    }
+    let q = minus (s .p) (correctionsIn (s .h) (s .g) (s .r)) in
+    let e : c .before .moved .result ≡ q = rw (c .before .before .corrections-in .ensures) at (c .before .moved .ensures) in
+    c .judged .ensures ∙ ap (turnOf (s .g) (s .r)) e ∙ sym (λ i. cond (passes t i) (turnOf (s .g) (s .r) q) (turn.Refused NodeLimits))
 
 pub evaluation-spec : {M : Type 1} → statement M
 evaluation-spec =

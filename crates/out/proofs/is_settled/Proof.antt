@@ -1,4 +1,4 @@
--- `out::is_settled` meets its contract: the differences are small, so each fits. Assumes nothing.
+-- `out::is_settled` meets its contract: the differences are small, so each fits.
 use mathlib.Core.Path.{_≡_, sym, _∙_}
 use native.Mathlib.Omega.{arith}
 use lib.IntN.{_-ℤ_}

@@ -1,9 +1,10 @@
--- `out::judged` meets its contract: question 10 precedes the stop rule. Assumes nothing.
+-- `out::judged` meets its contract: question 10 precedes the stop rule.
 use mathlib.Core.Bool.{true}
 use mathlib.Core.Path.{_≡_, sym, _∙_}
 use borrow.Author.Tests.{not-true, not-false}
 use Rattle.rules.specs.Lookup.{inside}
-use Rattle.rules.proofs.Cells.{axis-within, on-latitude, on-longitude}
+use Rattle.rules.proofs.Cells.{point-within}
+use Rattle.out.specs.Turn.{turnOf}
 use borrow.Author.Needs.{needs}
 use Rattle.out.proofs.judged.Statement.{statement}
 use Rattle.out.proofs.judged.Tie as tie
@@ -12,26 +13,22 @@ bounds : (c : tie.Else1) → inside (c .before .before .args .g) (c .before .bef
 bounds c = sym (c .before .in-bounds .ensures) ∙ not-false _ (c .if1 .left)
 
 returns : tie.Need-returns
-returns c = let e = sym (c .before .in-bounds .ensures) ∙ not-true _ (c .if1 .taken) in record { step = λ n more. rw e; leads = tt }
+unfolding turnOf
+returns c = rw (sym (c .before .in-bounds .ensures) ∙ not-true _ (c .if1 .taken))
 
 is-settled-requires : tie.Need-is-settled-requires
 is-settled-requires c κs = let s = c .before .before in
-    let g = s .args .g in (
-      axis-within (s .pre .0) _ (on-latitude g (s .args .q) (bounds c)),
-      axis-within (s .pre .1) _ (on-longitude g (s .args .q) (bounds c)),
-      axis-within (s .pre .0) _ (on-latitude g (s .args .r) (s .pre .2)),
-      axis-within (s .pre .1) _ (on-longitude g (s .args .r) (s .pre .2)),
-    )
+    let q = point-within (s .args .g) (s .args .q) (s .pre .latitude) (s .pre .longitude) (bounds c) in
+    let r = point-within (s .args .g) (s .args .r) (s .pre .latitude) (s .pre .longitude) (s .pre .point) in
+    (q, r)
 
 returns-2 : tie.Need-returns-2
-returns-2 c = let i = bounds (c .before .before) in
-    let e = sym (c .before .is-settled .ensures) ∙ c .if2 .taken in
-    record { step = λ n more. rw (i, e); leads = i }
+unfolding turnOf
+returns-2 c = rw (bounds (c .before .before), sym (c .before .is-settled .ensures) ∙ c .if2 .taken)
 
 returns-3 : tie.Need-returns-3
-returns-3 c = let i = bounds (c .before .before) in
-    let e = sym (c .before .is-settled .ensures) ∙ c .if2 .left in
-    record { step = λ n more. rw (i, e); leads = i }
+unfolding turnOf
+returns-3 c = rw (bounds (c .before .before), sym (c .before .is-settled .ensures) ∙ c .if2 .left)
 
 pub judged-spec : {M : Type 1} → statement M
 judged-spec =

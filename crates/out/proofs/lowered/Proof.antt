@@ -1,4 +1,4 @@
--- `out::lowered` meets its contract: the difference is small, and the angles are read back from their bits. Assumes nothing.
+-- `out::lowered` meets its contract: the difference is small, and the angles are read back from their bits.
 use native.Mathlib.Omega.{arith}
 use mir.Syntax.{w64}
 use Rattle.integers.specs.Machine.{kept, difference-fits, difference-back}

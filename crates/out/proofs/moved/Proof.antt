@@ -1,4 +1,4 @@
--- `out::moved` meets its contract: the differences are small, so each fits. Assumes nothing.
+-- `out::moved` meets its contract: the differences are small, so each fits.
 use native.Mathlib.Omega.{arith}
 use Rattle.integers.specs.Machine.{difference-fits, difference-back}
 use Rattle.rules.specs.Ways.{minus}

@@ -1,4 +1,4 @@
--- `slopes::check_nodes` meets its contract: the walk's answer decides question 9, and after it the steps are small enough to put question 12. Assumes nothing.
+-- `slopes::check_nodes` meets its contract: the walk's answer decides question 9, and after it the steps are small enough to put question 12.
 use mathlib.Core.Bool.{true, false}
 use mathlib.Core.Path.{_≡_, refl, sym, _∙_}
 use denote.Ref.{now}
@@ -18,8 +18,8 @@ passed : (c : tie.After-found) → let s = c .before .before .before .before .ar
     (allPass g ≡ true) × (findingsOf g ≡ c .found .given .0 .0)
 passed c = within-limits _ _ _ (sym (c .before .before .walk-grid .ensures) ∙ c .found .given .1)
 
-all-gentle-requires : tie.Need-all-gentle-requires
-all-gentle-requires c κs =
+slopes-pass-requires : tie.Need-slopes-pass-requires
+slopes-pass-requires c κs =
     let o = c .before .before .before .before .before .pre in
     let h = passed (c .before) in
     (o .latitude .sized, o .longitude .sized, rw (h .1) at (found-small _ (h .0)))
@@ -30,11 +30,11 @@ returns c = rw (refused c) refl
 
 returns-2 : tie.Need-returns-2
 unfolding check
-returns-2 c = let h = passed (c .before .before .before) in rw (h .0, h .1, sym (c .before .all-gentle .ensures) ∙ c .if1 .taken)
+returns-2 c = let h = passed (c .before .before .before) in rw (h .0, h .1, sym (c .before .slopes-pass .ensures) ∙ c .if1 .taken)
 
 returns-3 : tie.Need-returns-3
 unfolding check
-returns-3 c = let h = passed (c .before .before .before) in rw (h .0, h .1, sym (c .before .all-gentle .ensures) ∙ c .if1 .left)
+returns-3 c = let h = passed (c .before .before .before) in rw (h .0, h .1, sym (c .before .slopes-pass .ensures) ∙ c .if1 .left)
 
 pub check-nodes-spec : {M : Type 1} → statement M
 check-nodes-spec =
@@ -43,7 +43,7 @@ check-nodes-spec =
     (λ c κs. search needs)
     (λ c. search needs)
     (λ c. search needs)
-    all-gentle-requires
+    slopes-pass-requires
     returns
     returns-2
     returns-3)

@@ -1,9 +1,9 @@
--- `slopes::grid_check` meets its contract: questions 1 to 6 by `open`, the others by `check_nodes`. Assumes nothing.
+-- `slopes::grid_check` meets its contract: questions 1 to 6 by `open`, the others by `check_nodes`.
 use mathlib.Core.Path.{_≡_, sym, ap, _∙_}
 use denote.Ref.{now}
 use borrow.Author.Needs.{needs}
-use Rattle.rules.specs.Answers.{values, openedOf}
-use Rattle.rules.specs.Questions.{opening}
+use Rattle.rules.specs.Answers.{values}
+use Rattle.rules.specs.Questions.{opening, openedOf}
 use Rattle.rules.specs.Check.{gridCheck}
 use Rattle.rules.proofs.Opening.{opened}
 use Rattle.slopes.proofs.grid_check.Statement.{statement}

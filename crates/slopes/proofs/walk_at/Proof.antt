@@ -1,4 +1,4 @@
--- `slopes::walk_at` meets its contract: both rows lie in the image, and a walk along their parts is one along the rows of the grid. Assumes nothing.
+-- `slopes::walk_at` meets its contract: both rows lie in the image, and a walk along their parts is one along the rows of the grid.
 use mathlib.Core.Path.{_≡_, ap, _∙_}
 use Prim.Native.Nat.{_+_, _-_, _*_, _≤_}
 use native.Mathlib.Omega.{arith}
@@ -14,7 +14,7 @@ use Rattle.slopes.proofs.walk_at.Tie as tie
 
 -- where the row to the south begins
 south : (c : tie.After-row-start) → let s = c .before .before .before .args in c .row-start .result ≡ rowStart (length (now (s .image))) (s .g) (s .row - 1)
-south c = let s = c .before .before .before .args in c .row-start .ensures ∙ ap (rowStart (length (now (s .image))) (s .g)) (c .before .previous .ensures)
+south c = let s = c .before .before .before .args in c .row-start .ensures ∙ ap (rowStart (length (now (s .image))) (s .g)) (c .before .southern-row .ensures)
 
 -- both rows lie in the image
 inside : (c : tie.After-row-start2) → let s = c .before .before .before .before .args in

@@ -1,5 +1,4 @@
 -- `slopes::walk_grid` meets its contract. The invariant: all nodes of the rows so far are within question 9's limits, and found has the steps to them.
--- Assumes nothing.
 use mathlib.Core.Bool.{true}
 use mathlib.Core.Path.{_≡_, refl, sym, ap, _∙_}
 use Prim.Native.Nat.{_-_, _≤_}
@@ -8,9 +7,9 @@ use denote.Ref.{now}
 use borrow.Author.Needs.{needs}
 use Rattle.rules.specs.Image.{rows, gridOf}
 use Rattle.rules.specs.Check.{every, allPass}
-use Rattle.rules.proofs.Over.{every-more, every-missed}
+use Rattle.rules.proofs.Largest.{every-more, every-missed}
 use Rattle.steps.specs.declared.Walk.the-variants.{Within}
-use Rattle.steps.specs.Walk.{turns}
+use Rattle.steps.specs.Walk.{foldUpTo}
 use Rattle.slopes.specs.Rows.{passesAt}
 use Rattle.slopes.proofs.Rows.{within-limits, beyond-limits}
 use Rattle.slopes.proofs.Maxima.{overRows, rows-more, found-all}
@@ -27,7 +26,7 @@ abbrev μ-loop : tie.MeasureT-loop
 μ-loop image g count found₀ row₀ found row = count - row
 
 loop-holds : tie.Need-loop-holds Inv-loop μ-loop
-unfolding every overRows turns
+unfolding every overRows foldUpTo
 loop-holds c = (omega arith, refl, c .no-steps .ensures)
 
 returns : tie.Need-returns Inv-loop μ-loop

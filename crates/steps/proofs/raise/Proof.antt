@@ -1,4 +1,4 @@
--- `steps::raise` meets its contract: the difference of two numbers of 32 bits fits, and its size is the step. Assumes nothing.
+-- `steps::raise` meets its contract: the difference of two numbers of 32 bits fits, and its size is the step.
 use mathlib.Core.Path.{_≡_, ap}
 use Prim.Native.Nat.{_≤_, max}
 use native.Mathlib.Omega.{arith}

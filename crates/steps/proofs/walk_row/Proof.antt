@@ -1,5 +1,5 @@
 -- `steps::walk_row` meets its contract. The invariant: west is the node before this column, the nodes passed so far are within question 9's limits,
--- and found has the steps to them. Assumes nothing.
+-- and found has the steps to them.
 use mathlib.Core.Bool.{true}
 use mathlib.Core.Path.{_≡_, refl, sym, ap, _∙_}
 use Prim.Native.Nat.{_+_, _-_, _≤_}
@@ -9,11 +9,11 @@ use borrow.Author.Tests.{not-true, not-false}
 use denote.Ref.{now}
 use Rattle.rules.specs.Lookup.{nodePasses}
 use Rattle.rules.specs.Check.{every}
-use Rattle.rules.proofs.Over.{every-more, every-missed}
+use Rattle.rules.proofs.Largest.{every-more, every-missed}
 use Rattle.nodes.specs.Cell.{nodeOf}
-use Rattle.steps.specs.Walk.{turns, along, rowPasses, rowFindings}
+use Rattle.steps.specs.Walk.{foldUpTo, along, rowPasses, rowFindings}
 use Rattle.steps.proofs.Readings.{node-narrow}
-use Rattle.steps.proofs.Turns.{along-more}
+use Rattle.steps.proofs.Folds.{along-more}
 use Rattle.steps.proofs.walk_row.Statement.{statement}
 use Rattle.steps.proofs.walk_row.Tie as tie
 
@@ -28,7 +28,7 @@ abbrev μ-loop : tie.MeasureT-loop
 μ-loop south row columns found₀ west₀ column₀ found west column = columns - column
 
 loop-holds : tie.Need-loop-holds Inv-loop μ-loop
-unfolding every along turns
+unfolding every along foldUpTo
 loop-holds c = (omega arith, c .node-of .ensures, refl, refl)
 
 -- question 9, of this node
@@ -42,8 +42,8 @@ returns c =
     let columns = l .before .before .before .before .args .columns in
     rw (every-missed columns _ (l .loop .column) (omega arith) (sym (passes (c .before)) ∙ not-true _ (c .if1 .taken)))
 
-widen-requires : tie.Need-widen-requires Inv-loop μ-loop
-widen-requires c κs =
+raise-all-requires : tie.Need-raise-all-requires Inv-loop μ-loop
+raise-all-requires c κs =
     let l = c .before .before .before .before .before in
     let k = l .before .before in (
       rw (c .before .before .before .node-of2 .ensures) (node-narrow _ (k .shared-slice-known2 .given) _),
@@ -59,7 +59,7 @@ loop-again c =
       omega arith,
       rw e (n .node-of2 .ensures),
       every-more _ _ (l .inv .2) (sym (passes (c .before .before .before)) ∙ not-false _ (c .before .before .if1 .left)),
-      c .widen .ensures ∙ rw (l .inv .3, n .node-of2 .ensures, l .inv .1, c .before .node-of3 .ensures) (along-more _ _ (l .column) _),
+      c .raise-all .ensures ∙ rw (l .inv .3, n .node-of2 .ensures, l .inv .1, c .before .node-of3 .ensures) (along-more _ _ (l .column) _),
     )
 
 returns-2 : tie.Need-returns-2 Inv-loop μ-loop
@@ -80,7 +80,7 @@ walk-row-spec =
     (λ c κs. search needs)
     returns
     (λ c κs. omega arith)
-    widen-requires
+    raise-all-requires
     (λ c. omega arith)
     (λ c. omega arith)
     loop-again

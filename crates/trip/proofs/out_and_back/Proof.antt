@@ -1,17 +1,16 @@
--- `trip::out_and_back` meets its contract: the way out, and its answer taken back. Assumes nothing.
+-- `trip::out_and_back` meets its contract: the way out, and its answer taken back.
 use mathlib.Core.Path.{_≡_, sym, ap, _∙_}
 use denote.Ref.{now}
 use mir.Syntax.{w64}
 use Rattle.integers.specs.Machine.{kept}
-use Rattle.rules.specs.Answers.{answerOf}
-use Rattle.rules.specs.Ways.{wayOut}
+use Rattle.rules.specs.Ways.{wayOut, answerOf}
 use Rattle.trip.specs.Trip.{outAndBack}
 use borrow.Author.Needs.{needs}
 use Rattle.trip.proofs.out_and_back.Statement.{statement}
 use Rattle.trip.proofs.out_and_back.Tie as tie
 
-went : (c : tie.After-way-out) → let s = c .before .before .args in answerOf (c .way-out .result) ≡ wayOut (now (s .image)) (s .p) (s .height)
-went c = let s = c .before .before in rw (kept w64 (s .args .height) (s .fits .height .sfits)) at (c .way-out .ensures)
+went : (c : tie.After-convert) → let s = c .before .before .args in answerOf (c .convert .result) ≡ wayOut (now (s .image)) (s .p) (s .height)
+went c = let s = c .before .before in rw (kept w64 (s .args .height) (s .fits .height .sfits)) at (c .convert .ensures)
 
 returns : tie.Need-returns
 unfolding outAndBack

@@ -1,26 +1,25 @@
--- `trip::taken_back` meets its contract: the way back takes the angles and the height as the way out answered them. Assumes nothing.
+-- `trip::taken_back` meets its contract: the way back takes the angles and the height as the way out answered them.
 use mathlib.Core.Path.{_≡_, sym, ap, _∙_}
 use denote.Ref.{now}
 use mir.Syntax.{w64}
 use Rattle.integers.specs.Machine.{kept}
-use Rattle.rules.specs.Answers.{answerOf}
-use Rattle.rules.specs.Ways.{wayBack}
+use Rattle.rules.specs.Ways.{wayBack, answerOf}
 use Rattle.trip.specs.Trip.{pointOf, returnOf}
 use borrow.Author.Needs.{needs}
 use Rattle.trip.proofs.taken_back.Statement.{statement}
 use Rattle.trip.proofs.taken_back.Tie as tie
 
-went : (c : tie.After-way-back) → let s = c .before .before .before .before .before .args in answerOf (c .way-back .result) ≡ wayBack (now (s .image)) (pointOf (s .there)) (s .there .height)
+went : (c : tie.After-convert) → let s = c .before .before .before .before .before .args in answerOf (c .convert .result) ≡ wayBack (now (s .image)) (pointOf (s .outward)) (s .outward .height)
 went c =
     let s = c .before .before .before .before .before .args in
-    let latitude = kept w64 (s .there .latitude) (c .before .before .before .struct-told .given .0 .1) in
-    let longitude = kept w64 (s .there .longitude) (c .before .before .struct-told2 .given .1 .0 .1) in
-    let height = kept w64 (s .there .height) (c .before .struct-told3 .given .1 .1 .0 .1) in
-    c .way-back .ensures ∙ (λ i. wayBack (now (s .image)) (record { latitude = latitude i; longitude = longitude i }) (height i))
+    let latitude = kept w64 (s .outward .latitude) (c .before .before .before .struct-told .given .0 .1) in
+    let longitude = kept w64 (s .outward .longitude) (c .before .before .struct-told2 .given .1 .0 .1) in
+    let height = kept w64 (s .outward .height) (c .before .struct-told3 .given .1 .1 .0 .1) in
+    c .convert .ensures ∙ (λ i. wayBack (now (s .image)) (record { latitude = latitude i; longitude = longitude i }) (height i))
 
 returns : tie.Need-returns
 unfolding returnOf
-returns c = rw (sym (went (c .before .before .before)) ∙ ap answerOf (c .before .again .given .1))
+returns c = rw (sym (went (c .before .before .before)) ∙ ap answerOf (c .before .returned .given .1))
 
 returns-2 : tie.Need-returns-2
 unfolding returnOf

@@ -1,0 +1,20 @@
+-- One fix of a list: its place in the list, and the count of its answer.
+use mathlib.Core.List.{List}
+use Prim.Native.Nat.{ℕ, _+_, _*_, _≤_}
+use lib.IntN.{ℤ, pos}
+use lib.ListN.{getD}
+use Rattle.rules.specs.declared.Point.{Point}
+use Rattle.rules.specs.declared.Position.{Position}
+use Rattle.rules.specs.Answers.{Outcome, values, number}
+
+-- The point and the height of fix k.
+abbrev pub pointAt : List ℤ → ℕ → Point
+pointAt fixes k = record { latitude = getD fixes (3 * k) (pos 0); longitude = getD fixes (3 * k + 1) (pos 0) }
+
+abbrev pub heightAt : List ℤ → ℕ → ℤ
+heightAt fixes k = getD fixes (3 * k + 2) (pos 0)
+
+-- The count fits an i64: it is at most 5, as either way gives it (proofs/Counts.antt, `count-fits`).
+abbrev pub CountAtMostFive : Outcome Position → Type 0
+CountAtMostFive (values p) = p .count ≤ 5
+CountAtMostFive (number n) = Unit {0}
