@@ -4,8 +4,9 @@
  * Each function checks all that it is given: callers check nothing beforehand. A pointer refers to as many elements as its
  * length says, or as the declaration does; what is written overlaps nothing else that is passed. Where the length is 0, any
  * non-null pointer will do.
- * A function gives 0, or the number of the first of document 01's questions whose answer is no; then what it was lent is unchanged.
- * What each number says (a list call asks 14 right after 6, then 7 to 11 of each fix):
+ * A function gives 0, or the number of the first of document 01's questions put to the call whose answer is no; then what it was
+ * lent is unchanged. A list call puts 14 right after 6; 7 to 11 are put to each fix and stand in that fix's answer.
+ * What each number says:
  *    1  the image has fewer than 40 bytes
  *    2  its edition is not 1
  *    3  its rows or columns are not from 2 to 4,096

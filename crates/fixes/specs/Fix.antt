@@ -1,4 +1,4 @@
--- One fix of a list: its place in the list, and the count of its answer.
+-- Fix k of a list: its point and height; and the limit of an answer's count.
 use mathlib.Core.List.{List}
 use Prim.Native.Nat.{ℕ, _+_, _*_, _≤_}
 use lib.IntN.{ℤ, pos}

@@ -1,4 +1,5 @@
--- Laws of ℤ: an integer as a difference, distances, rounding down and to the nearest, signed machine numbers; and of answers, true or false.
+-- Rounding down and to the nearest (Rounding.antt), on which the rules rest, and laws: of an integer as a difference, of distances, of signed
+-- machine numbers, of booleans.
 pub mod Difference
 pub mod Distance
 pub mod Rounding

@@ -1,1 +1,1 @@
-// The laws of the integers that the crates above cite: all in specs/, no function.
+// Rounding, on which the rules rest, and laws of integers, of signed machine numbers and of booleans: all in specs/, no function.

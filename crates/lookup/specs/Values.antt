@@ -26,7 +26,7 @@ use Rattle.lookup.specs.declared.PlaceInCell.{PlaceInCell}
 abbrev pub sideFor : Axis → ℤ → ℕ
 sideFor a z = cellFor a z * a .spacing
 
--- The cell of a point in the bounds.
+-- The cell of a point in the bounds; a and o are the latitude and the longitude axis.
 unfoldable pub heldAt : Grid → Point → HeldCell
 heldAt g p =
     let a = g .geometry .latitude in

@@ -25,8 +25,8 @@ ghost use Rattle.rules.specs.Bilinear.{offset};
 ghost use Rattle.rules.specs.Lookup as lookup;
 ghost use Rattle.lookup.specs.Values.{heldAt, reaches, liesIn, Bounded, offsetsOf, placeIn, Holds, valuesIn, correctionsIn, heightIn};
 
-// A cell read from an image: the nodes at its corners, how far its south and west side lie from the bounds there, and
-// the answer to question 9.
+// A cell read from an image: the nodes at its corners, the distance of its south side from the south bound and of its west side from the
+// west bound, and the answer to question 9.
 pub struct HeldCell {
     pub corners: Cell,
     pub south: u64,

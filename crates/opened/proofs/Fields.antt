@@ -1,7 +1,7 @@
 -- An `OpenedImage` that is a function's first parameter, taken apart for a callee whose first parameters are the bytes and the geometry, and whose others are the function's own.
 --     Row, Described, Lawful     the struct's type, its description and its laws, over the signature's lifetimes
 --     apart                      what the parameters own, where each other one is Copy, gives it again, and what the callee's own
--- `apart` takes `Given`. The rest assumes nothing.
+-- `apart` takes `Given`, which the kit hands to every proof (types.Kit).
 use mathlib.Core.Path.{_≡_}
 use mathlib.Core.List.{List, [], _∷_}
 use lib.ListN.{length}

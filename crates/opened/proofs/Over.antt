@@ -3,7 +3,7 @@
 --     Own, Its                 the two functions' signatures
 --     own-clauses, its-clauses their contracts, over what is asked (Ask) and what is told (Tell) of the bytes, the geometry, the struct and the result
 --     over                     the theorem
--- `over` takes `Given`, by its tables. The rest assumes nothing.
+-- `over` takes `Given`, which the kit hands to every proof (types.Kit), by its tables.
 use mathlib.Core.Path.{refl}
 use Prim.Native.Nat.{ℕ}
 use mathlib.Core.List.{List, [], _∷_}

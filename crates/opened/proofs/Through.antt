@@ -2,7 +2,7 @@
 --     code             the MIR, over the types and the key of the function over the record
 --     Making, Lower    the contracts of `opened_image` and of the function over the record
 --     through          the theorem
--- `through` takes `Given`. The rest assumes nothing.
+-- `through` takes `Given`, which the kit hands to every proof (types.Kit).
 use mathlib.Core.Path.{_≡_, refl, sym, subst}
 use Prim.Native.Nat.{ℕ}
 use mathlib.Core.List.{List, [], _∷_}

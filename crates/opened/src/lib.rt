@@ -1,7 +1,7 @@
 // An opened image: a record that refers to the lent bytes and holds the geometry, with few thin functions over it.
-// The kit's borrow checker derives the proofs of all other functions but not of those over a record that holds a reference. So each of
-// these is proved by hand (proofs/), by a walk of its compiled code, and leaves the work to a function that the checker covers, on the
-// slice and the geometry. An enum cannot hold a reference, so opening does not answer the record: the caller matches `image::open` and
+// The kit derives the walk of every other function's compiled code, so that its proof is about values alone, but not the walk of a function
+// over a record that holds a reference. So each of these is walked by hand (proofs/), and leaves the work to a function that the kit covers,
+// on the slice and the geometry. An enum cannot hold a reference, so opening does not answer the record: the caller matches `image::open` and
 // makes the record of the geometry found, as `way_out` does.
 use image::open;
 use lookup::look_up;

@@ -15,7 +15,7 @@ use Rattle.rules.specs.Check.{every, largest, allPass, stepNorth, stepEa
 use Rattle.rules.specs.Lists.{question14, convertList, listBack}
 use Rattle.rules.specs.Figures.{gridG, variant, at}
 
--- G with one row, without a latitude spacing, with a far southern bound, with another back, with a node beyond its limit.
+-- Bytes changed at G's places: one row, no latitude spacing, a far southern bound, another back, a node beyond its limit.
 abbrev oneRow : List ℕ → List ℕ
 oneRow b = set b 132 1
 

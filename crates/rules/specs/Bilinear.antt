@@ -66,7 +66,7 @@ weighted c u v P Q =
 unfoldable pub bilinear : Square → (u v P Q : ℕ) → ℤ
 bilinear c u v P Q = roundHalfUp (weighted c u v P Q) (P * Q)
 
--- The value at a point in the bounds.
+-- The value at a point in the bounds; a and o are the latitude and the longitude axis.
 unfoldable pub valueAt : Geometry → (ℕ → ℕ → ℤ) → Point → ℤ
 valueAt g f p =
     let a = g .latitude in

@@ -76,7 +76,8 @@ firstNode b g = length b - backOf g
 unfoldable pub plane : List ℕ → (first stride columns : ℕ) → ℕ → ℕ → ℤ
 plane b first stride columns row column = i32At b (first + stride * (row * columns + column))
 
--- A grid: its geometry, and the values of each node by row and column. Row 0 is the southern one, column 0 the western.
+-- A grid: its geometry, and by row and column the latitude correction, the longitude correction and the quasi-geoid height. Row 0 is the
+-- southern one, column 0 the western.
 pub record Grid : Type 0 where
   pub geometry : Geometry
   pub latitude : ℕ → ℕ → ℤ

@@ -1,15 +1,22 @@
--- Document 01 as definitions: what a reader must believe. Each file names its section; a definition stands after those that it uses.
+-- Document 01 as definitions: what a reader must believe, but for Limits.antt, which is proved. Each file names the section that it says; a
+-- definition stands after those that it uses. Two more to believe are `floorDiv` and `roundHalfUp` (crates/integers/specs/Rounding.antt).
 --
--- How to read them. A definition's first line says what it takes and gives, the next ones say what it is. `f x y` is f of x and y; `r .x` is
--- field x of r; `record { x = a; … }` is the record with these fields; `λ x. …` is the function of x.
---     ℕ, ℤ                     the numbers from 0 up, and all whole numbers: `pos n` is n, `negsuc n` is −(n + 1)
---     _+_ _-_ _*_ _/_ _%_      on ℕ: a - b is 0 where b is above a; a / b is rounded down, a % b is the remainder
---     _+ℤ_ _-ℤ_ negℤ natAbs    on ℤ: sum, difference, negative, and the absolute value, in ℕ
+-- How to read them. A definition's first line says what it takes and gives, the next ones say what it is; several are cases, of which the
+-- first that fits holds. One with fewer names than its first line takes is the function of the rest. `declared.T` is type T of
+-- ../src/lib.rt, its u64 and u8 fields read as ℕ and its i64 fields as ℤ; `way.Out` is case Out of enum Way.
+--     f x y, r .x, λ x. t      f of x and y; field x of r; the function of x that gives t
+--     let x = a in t           t with x for a; `where` does the same from below
+--     record { x = a; … }      the record with these fields; in a `record … where` of claims, all of its lines hold
+--     A → B, (x : A) → C       from A to B; and as a claim: C for every x of A. {A : Type 0}: for every type A
+--     Bool, ℕ, ℤ               true or false; the numbers from 0 up, `zero` and `suc n`, which is n + 1; all whole numbers, `pos n`, which is n,
+--                              and `negsuc n`, which is −(n + 1)
+--     _+_ _-_ _*_ _/_ _%_      on ℕ: a - b is 0 where b is above a; a / b is rounded down, a % b is the remainder; `min` and `max`
+--     _+ℤ_ _-ℤ_ _*ℤ_ negℤ      on ℤ: sum, difference, product, negative; `natAbs`, the absolute value, in ℕ
 --     leb ltb eqb, leZ ltZ     the answer, true or false, to: at most, below, equal, on ℕ; at most, below, on ℤ
 --     _&&_ _||_ cond           and, or; `cond t a b` is a where t is true, else b
---     length, getD l i d       a list's length; its element i, counted from 0, or d past its end
---     _≡_ _≤_ _≤ℤ_ _×_         claims: equal, at most, both
--- `abbrev` and `unfoldable` say how readily the checker sees through a definition; they do not change what it is.
+--     [], x ∷ l, l ++ k        lists: none, x before l, l before k; `length`; `getD l i d`, element i, counted from 0, or d past the end
+--     _≡_ _≤_ _≤ℤ_             claims: equal, at most; `refl` proves what computes to the same
+-- `abbrev`, `unfoldable` and `unfolding` say where the checker sees through a definition; they do not change what it is.
 pub mod Units
 pub mod Answers
 pub mod Image

@@ -19,7 +19,8 @@ abbrev pub fiveOf : Outcome Position → List ℤ
 fiveOf (values p) = p .latitude ∷ p .longitude ∷ p .height ∷ pos (p .count) ∷ pos 0 ∷ []
 fiveOf (number n) = pos 0 ∷ pos 0 ∷ pos 0 ∷ pos 0 ∷ pos n ∷ []
 
--- The answers to all fixes, in their order, each by the same single conversion.
+-- The answers to all fixes, in their order, each by the same single conversion. One or two numbers left over, which question 14 excludes,
+-- give none.
 abbrev pub answersOf : (Point → ℤ → Outcome Position) → List ℤ → List ℤ
 answersOf single (x ∷ y ∷ height ∷ rest) = fiveOf (single (record { latitude = x; longitude = y }) height) ++ answersOf single rest
 answersOf single (x ∷ y ∷ []) = []

@@ -32,7 +32,7 @@ cellPasses g row column =
     (nodePasses (nodeAt g row column) && nodePasses (nodeAt g row (column + 1)))
     && (nodePasses (nodeAt g (row + 1) column) && nodePasses (nodeAt g (row + 1) (column + 1)))
 
--- The same of the cell of a point in the bounds.
+-- The same of the cell of a point in the bounds; a and o are the latitude and the longitude axis.
 unfoldable pub question9 : Grid → Point → Bool
 question9 g p =
     let a = g .geometry .latitude in

@@ -1,5 +1,6 @@
 -- Demand 3, the return promise (document 01, "Grid check"), of an image b with geometry g. Answered means with values. A trip hands the second
--- way the two angles and the height that the first one answered.
+-- way the two angles and the height that the first one answered. It is proved of every image that passes the grid check: `promise` and
+-- `kept`, crates/returning/specs/Return.antt.
 use mathlib.Core.List.{List}
 use mathlib.Core.Path.{_≡_}
 use Prim.Native.Nat.{ℕ, _≤_}

@@ -85,7 +85,7 @@ wayOf way.Back = back
 unfoldable pub convertOver : Way → Source → Point → ℤ → Outcome Position
 convertOver w s p h = ask (question7 (heightLimit w) p h) 7 (ask (s .inside p) 8 (wayOf w s p h))
 
--- A grid's answers: one lookup gives the corrections and the height.
+-- A grid's answers: question 8's bounds, and one lookup that gives the corrections and the height.
 abbrev pub sourceOf : Grid → Source
 sourceOf g =
     record {

@@ -1,4 +1,4 @@
-// The types that document 01's rules speak of. The rules are in specs/, one file for each section; there is no code here.
+// The types that document 01's rules speak of. The rules are in specs/, by document 01's sections; there is no code here.
 
 // One axis of a grid: the southern or western bound in nd, the spacing in nd, and the count of rows or columns.
 pub struct Axis {

@@ -28,14 +28,14 @@ module _ (b : List ℕ) (p : Point) (h : ℤ) (g : Geometry) (f : Findings)
     promised-trip : Trip
     promised-trip = let o = promised in record { outward = position (o .bessel) (o .nap) (o .count); returned = position (o .returned) h 1 }
 
-    returns-so : Returns p h promised-trip
+    returns-so : Returns b p h promised-trip
     unfolding promised-trip
-    returns-so = let o = promised in record { at-least-one = o .at-least-one; at-most-five = o .at-most-five; angles = o .angles; height = λ i. h }
+    returns-so = let o = promised in record { at-least-one = o .at-least-one; at-most-five = o .at-most-five; angles = o .angles; height = λ i. h; others = o .others }
 
     trip-is : trip b p h ≡ values promised-trip
     unfolding trip outAndBack returnOf promised-trip
     trip-is = let o = promised in rw (passes, o .answered, o .back-again)
 
-    pub kept : (r : TripAnswer) → tripOf r ≡ trip b p h → Keeps p h r
+    pub kept : (r : TripAnswer) → tripOf r ≡ trip b p h → Keeps b p h r
     kept (trip-answer.Returned t) e = let k : promised-trip ≡ t = cc (trip-is) in rw k at returns-so
     kept (trip-answer.Refused r) e = let z : _≡_ {A = ℕ} 0 1 = cc (trip-is) in omega arith

@@ -34,7 +34,7 @@ pub enum TripAnswer {
 // the trip returns, as the return promise says.
 pub fn round_trip(image: &[u8], p: Point, height: i64) -> TripAnswer
     ensures values { λ r. ⌜ rule.tripOf r ≡ rule.trip (now (image .entry)) p height ⌝ }
-    ensures promise { λ r. ⌜ ((g : Geometry) (f : Findings) → opening (now (image .entry)) ≡ values g → gridCheck (now (image .entry)) ≡ values f → Inside 10000000 g p → natAbs height ≤ 100000000 → rule.Keeps p height r) ⌝ }
+    ensures promise { λ r. ⌜ ((g : Geometry) (f : Findings) → opening (now (image .entry)) ≡ values g → gridCheck (now (image .entry)) ≡ values f → Inside 10000000 g p → natAbs height ≤ 100000000 → rule.Keeps (now (image .entry)) p height r) ⌝ }
 {
     match grid_check(image) {
         Checked::Passed(_) => out_and_back(image, p, height),
