@@ -58,10 +58,13 @@ at-corners {g} T o all p =
     let l = cell-nodes (g .longitude) (offset (g .longitude) (p .longitude)) (o .longitude .sized) in
     (all row column (omega arith) (omega arith), all row (column + 1) (omega arith) l, all (row + 1) column k (omega arith), all (row + 1) (column + 1) k l)
 
--- The cell starts at or before the offset.
+-- So many whole spacings, or fewer, reach at most to the offset; so the cell starts at or before it.
+pub whole-spacings : (x spacing most : ℕ) → min (x / spacing) most * spacing ≤ x
+whole-spacings x spacing most = le-trans (mul-le-mul-right spacing (min-le-left (x / spacing) most)) (div-mul-le-self x spacing)
+
 pub cell-start : (a : Axis) (x : ℕ) → cellOf a x * a .spacing ≤ x
 unfolding cellOf
-cell-start a x = le-trans (mul-le-mul-right (a .spacing) (min-le-left (x / a .spacing) (a .count - 2))) (div-mul-le-self x (a .spacing))
+cell-start a x = whole-spacings x (a .spacing) (a .count - 2)
 
 -- Less its part, an offset is the cell's start.
 pub less-part : (a : Axis) (x : ℕ) → x - partOf a x ≡ cellOf a x * a .spacing

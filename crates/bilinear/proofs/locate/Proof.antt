@@ -2,14 +2,13 @@
 use Prim.Native.Nat.{_-_, _*_, _≤_}
 use native.Mathlib.Omega.{arith}
 use Rattle.rules.specs.Bilinear.{cellOf, partOf}
-use Rattle.rules.proofs.Cells.{cell-start}
+use Rattle.rules.proofs.Cells.{whole-spacings}
 use borrow.Author.Needs.{needs}
 use Rattle.bilinear.proofs.locate.Statement.{statement}
 use Rattle.bilinear.proofs.locate.Tie as tie
 
 start : (c : tie.After-struct-known3) → let s = c .before .before .before .before .args in c .before .smaller .result * s .a .spacing ≤ s .x
-unfolding cellOf
-start c = let s = c .before .before .before .before .args in rw (c .before .smaller .ensures) (cell-start (s .a) (s .x))
+start c = let s = c .before .before .before .before .args in rw (c .before .smaller .ensures) (whole-spacings (s .x) (s .a .spacing) _)
 
 mul-part : tie.Need-mul-part
 mul-part c = omega (arith, start c, c .before .before .before .before .fits .x)

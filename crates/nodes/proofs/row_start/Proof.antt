@@ -25,4 +25,4 @@ row-start-spec =
     mul-result-3
     mul-result-4
     add-result-2
-    (λ c. search needs))
+    (λ c. omega arith))
