@@ -40,11 +40,13 @@ int64_t marker_grid_check(const uint8_t *image, size_t image_len, int64_t findin
 /* Converts all fixes from ETRS89 and ellipsoidal height to Bessel and NAP. A fix is three numbers: latitude, longitude, height.
  * An answer is five: latitude, longitude, height, the count of grid evaluations, and 0; a refused fix gets four zeros and its
  * number (7 to 11), and does not end the list. Gives 0, or 1 to 6 or 14 with the answers unchanged. */
-int64_t marker_list_out(const uint8_t *image, size_t image_len, const int64_t *fixes, size_t fixes_len, int64_t *answers, size_t answers_len);
+int64_t marker_list_out(const uint8_t *image, size_t image_len, const int64_t *fixes, size_t fixes_len, int64_t *answers,
+                        size_t answers_len);
 
 /* Converts all fixes back, from Bessel and NAP to ETRS89 and ellipsoidal height. As above, but the count is always 1 and a refused
  * fix's number is 7, 8 or 9. */
-int64_t marker_list_back(const uint8_t *image, size_t image_len, const int64_t *fixes, size_t fixes_len, int64_t *answers, size_t answers_len);
+int64_t marker_list_back(const uint8_t *image, size_t image_len, const int64_t *fixes, size_t fixes_len, int64_t *answers,
+                         size_t answers_len);
 
 /* Reads degrees, minutes and hundred-thousandths of a second with a letter (N or S for latitudes, E or W for longitudes) as nd.
  * `longitude` is true for longitudes, false for latitudes. Gives 0, or 13. */

@@ -1,3 +1,3 @@
 -- Laws of the bilinear value, over natural numbers and over ℤ.
-pub mod Rounding
-pub mod Raising
+pub mod Mixes
+pub mod Gaps

@@ -1,3 +1,2 @@
--- What the contracts of the cell's finding and of the weighting cite.
-pub mod Place
+-- What the contracts of the weighting cite.
 pub mod Mean

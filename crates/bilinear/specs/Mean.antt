@@ -1,26 +1,22 @@
 -- What the weighting function asks of its numbers, and the weighted mean over natural numbers that its steps compute.
-use Prim.Native.Nat.{ℕ, _+_, _-_, _*_, _/_, _≤_, max}
+use Prim.Native.Nat.{ℕ, _+_, _-_, _*_, _/_, _%_, _^_, _≤_, _<_, max}
 use mathlib.Core.Bool.{cond}
-use lib.IntN.{ℤ, natAbs}
+use lib.IntN.{ℤ, pos}
 use lib.Signed.{leZ}
-use Rattle.rules.specs.Bilinear.{Square}
-
--- Corner values within `limit` of zero.
-pub record CornersWithin (limit : ℕ) (c : Square) : Type 0 where
-  pub southwest : natAbs (c .southwest) ≤ limit
-  pub southeast : natAbs (c .southeast) ≤ limit
-  pub northwest : natAbs (c .northwest) ≤ limit
-  pub northeast : natAbs (c .northeast) ≤ limit
+use Rattle.integers.specs.Rounding.{roundHalfUp}
+use Rattle.rules.specs.declared.Square.{Square}
+use Rattle.rules.specs.Units.{spacingMost, correctionLimit}
+use Rattle.bilinear.specs.declared.Quotient.{Quotient}
 
 -- A spacing that question 4 lets pass.
 pub record Spacing (P : ℕ) : Type 0 where
   pub least : 1 ≤ P
-  pub most : P ≤ 100000000
+  pub most : P ≤ spacingMost
 
--- A place in a cell, its sides included.
+-- A place in a cell, its sides included: u from its south side, v from its west side.
 pub record InCell (u v P Q : ℕ) : Type 0 where
-  pub north : u ≤ P
-  pub east : v ≤ Q
+  pub u-most : u ≤ P
+  pub v-most : v ≤ Q
   pub latitude-spacing : Spacing P
   pub longitude-spacing : Spacing Q
 
@@ -33,29 +29,25 @@ abbrev pub leastOf : Square → ℤ
 leastOf c = minimum (minimum (c .southwest) (c .southeast)) (minimum (c .northwest) (c .northeast))
 
 -- a and b weighted by the parts whole − w and w.
-abbrev pub mix : ℕ → ℕ → ℕ → ℕ → ℕ
+abbrev pub mix : (a b w whole : ℕ) → ℕ
 mix a b w whole = (whole - w) * a + w * b
 
--- The quotient of such a mix by P × Q, plus one half, rounded down.
-unfoldable pub quotient : ℕ → ℕ → ℕ → ℕ → ℕ → ℕ
-quotient s n u P Q = (2 * mix s n u P + P * Q) / (2 * (P * Q))
+-- The mix of four natural corner values: that of the mixes of both rows.
+abbrev pub cornerMix : (sw se nw ne u v P Q : ℕ) → ℕ
+cornerMix sw se nw ne u v P Q = mix (mix sw se v Q) (mix nw ne v Q) u P
 
--- The rounded mean of four natural corner values: the mix of the mixes of both rows.
-abbrev pub mean : (sw se nw ne u v P Q : ℕ) → ℕ
-mean sw se nw ne u v P Q = quotient (mix sw se v Q) (mix nw ne v Q) u P Q
+-- The rounded mean of those values.
+abbrev pub mean : (sw se nw ne u v P Q : ℕ) → ℤ
+mean sw se nw ne u v P Q = roundHalfUp (pos (cornerMix sw se nw ne u v P Q)) (P * Q)
 
--- What keeps a mix in 64 bits, and the mix plus one half of an area of 10^16.
+-- The mix of two rows, divided by P × Q.
+abbrev pub quotientOf : (s n u P Q : ℕ) → Quotient
+quotientOf s n u P Q = record { whole = mix s n u P / (P * Q); rest = mix s n u P % (P * Q) }
+
+-- What keeps a mix in 64 bits.
 pub record Mixable (a b w whole : ℕ) : Type 0 where
   pub part : w ≤ whole
-  pub most : whole * max a b ≤ 18440000000000000000
-
--- Mixes of rows whose values are at most 20,000,000.
-pub record Rows (s n u P Q : ℕ) : Type 0 where
-  pub south-most : s ≤ Q * 20000000
-  pub north-most : n ≤ Q * 20000000
-  pub north : u ≤ P
-  pub latitude-spacing : Spacing P
-  pub longitude-spacing : Spacing Q
+  pub fits : whole * max a b < 2 ^ 64
 
 -- Natural corner values at most `limit`.
 pub record Below (limit sw se nw ne : ℕ) : Type 0 where
@@ -63,3 +55,17 @@ pub record Below (limit sw se nw ne : ℕ) : Type 0 where
   pub southeast : se ≤ limit
   pub northwest : nw ≤ limit
   pub northeast : ne ≤ limit
+
+-- The mixes of two rows of such values, as far above the least corner as corners can lie, and the part with which these are mixed.
+pub record RowMixes (s n u P Q : ℕ) : Type 0 where
+  pub south-most : s ≤ Q * (2 * correctionLimit)
+  pub north-most : n ≤ Q * (2 * correctionLimit)
+  pub u-most : u ≤ P
+  pub latitude-spacing : Spacing P
+  pub longitude-spacing : Spacing Q
+
+-- What a division of such mixes by the area of a cell gives.
+pub record Divided (q : Quotient) (area : ℕ) : Type 0 where
+  pub area-most : area ≤ spacingMost * spacingMost
+  pub whole-most : q .whole ≤ 2 * correctionLimit
+  pub rest-most : q .rest < area

@@ -1,5 +1,5 @@
--- The content of the answer list, fixed for every index: five numbers for each fix, which are those of the fix's conversion. A loop that has
--- written the first k answers writes one more.
+-- The content of the answer list, fixed for every index: five numbers for each fix, which are those of the fix's conversion. A loop that
+-- has written the first k answers writes one more.
 use mathlib.Core.List.{List, [], _∷_, _++_, append-assoc}
 use mathlib.Core.Path.{_≡_, refl, sym, _∙_}
 use Prim.Native.Nat.{ℕ, zero, suc, _+_, _*_, _-_, _≤_, _<_}
@@ -11,7 +11,7 @@ use Rattle.rules.specs.declared.Point.{Point}
 use Rattle.rules.specs.declared.Position.{Position}
 use Rattle.rules.specs.Answers.{Outcome, values, number}
 use Rattle.rules.specs.Lists.{fiveOf, answersOf}
-use Rattle.fixes.specs.Fix.{pointAt, heightAt}
+use Rattle.fixes.specs.Fix.{fixPoint, atFix}
 
 five-long : (a : Outcome Position) → length (fiveOf a) ≡ 5
 five-long (values p) = refl
@@ -30,17 +30,19 @@ module _ (single : Point → ℤ → Outcome Position) where
   answers-long (_ ∷ []) n h = absurd (omega arith)
   answers-long (_ ∷ _ ∷ []) n h = absurd (omega arith)
   answers-long (x ∷ y ∷ z ∷ rest) n h =
-      rw length-append (omega (arith, five-long (single (pointAt (x ∷ y ∷ []) 0) z), answers-long rest (n - 1) (omega arith)))
+      rw length-append (omega (arith, five-long (single (fixPoint (x ∷ y ∷ []) 0) z), answers-long rest (n - 1) (omega arith)))
 
   -- From 5 × k on stand the five numbers of the conversion of fix k.
   pub answers-at : (fixes : List ℤ) (k : ℕ) → 3 * k + 2 < length fixes
-      → take 5 (drop (5 * k) (answersOf single fixes)) ≡ fiveOf (single (pointAt fixes k) (heightAt fixes k))
+      → take 5 (drop (5 * k) (answersOf single fixes)) ≡ fiveOf (atFix single fixes k)
   answers-at [] k h = absurd (omega arith)
   answers-at (_ ∷ []) k h = absurd (omega arith)
   answers-at (_ ∷ _ ∷ []) k h = absurd (omega arith)
-  answers-at (x ∷ y ∷ z ∷ rest) zero h = let a = single (pointAt (x ∷ y ∷ []) 0) z in take-at (fiveOf a) (answersOf single rest) 5 (five-long a)
+  answers-at (x ∷ y ∷ z ∷ rest) zero h =
+      let a = single (fixPoint (x ∷ y ∷ []) 0) z in
+      take-at (fiveOf a) (answersOf single rest) 5 (five-long a)
   answers-at (x ∷ y ∷ z ∷ rest) (suc k) h =
-      let a = single (pointAt (x ∷ y ∷ []) 0) z in
+      let a = single (fixPoint (x ∷ y ∷ []) 0) z in
       let e : 5 * suc k ≡ length (fiveOf a) + 5 * k = omega (arith, five-long a) in
       let i : 3 * suc k ≡ suc (suc (suc (3 * k))) = omega arith in
       let i₁ : 3 * suc k + 1 ≡ suc (suc (suc (3 * k + 1))) = omega arith in
@@ -58,7 +60,7 @@ module _ (single : Point → ℤ → Outcome Position) where
 
     -- One more, at the front of the part that was lent on.
     pub written-more : (answers part rest post : List ℤ) (k : ℕ) (a : Outcome Position) → 3 * k + 2 < length fixes → 5 * k ≤ length answers
-        → part ≡ fiveOf a ++ rest → a ≡ single (pointAt fixes k) (heightAt fixes k)
+        → part ≡ fiveOf a ++ rest → a ≡ atFix single fixes k
         → Written answers k → Written (take (5 * k) answers ++ (part ++ post)) (k + 1)
     unfolding Written
     written-more answers part rest post k a hf ha e r w =
@@ -69,4 +71,5 @@ module _ (single : Point → ℤ → Outcome Position) where
         → Written answers n → answers ≡ answersOf single fixes
     unfolding Written
     written-all answers n hf ha w =
-        sym (take-all (5 * n) answers (omega arith)) ∙ w ∙ take-all (5 * n) (answersOf single fixes) (omega (arith, answers-long fixes n hf))
+        let long = answers-long fixes n hf in
+        sym (take-all (5 * n) answers (omega arith)) ∙ w ∙ take-all (5 * n) (answersOf single fixes) (omega arith)

@@ -12,7 +12,9 @@ pub same-n : (fixes answers : ℕ) → question14 fixes answers ≡ true → (fi
 unfolding question14
 same-n fixes answers h =
     let n = fixes / 3 in
-    (eqb-true _ _ (and-left (eqb fixes (3 * n)) (eqb answers (5 * n)) h), eqb-true _ _ (and-right (eqb fixes (3 * n)) (eqb answers (5 * n)) h))
+    let a = eqb fixes (3 * n) in
+    let b = eqb answers (5 * n) in
+    (eqb-true _ _ (and-left a b h), eqb-true _ _ (and-right a b h))
 
 pub any-n : (n : ℕ) → question14 (3 * n) (5 * n) ≡ true
 unfolding question14

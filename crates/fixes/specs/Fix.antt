@@ -1,4 +1,4 @@
--- Fix k of a list: its point and height; and the limit of an answer's count.
+-- Fix k of a list: its point, its height and its answer; and the limit of an answer's count.
 use mathlib.Core.List.{List}
 use Prim.Native.Nat.{ℕ, _+_, _*_, _≤_}
 use lib.IntN.{ℤ, pos}
@@ -8,11 +8,15 @@ use Rattle.rules.specs.declared.Position.{Position}
 use Rattle.rules.specs.Answers.{Outcome, values, number}
 
 -- The point and the height of fix k.
-abbrev pub pointAt : List ℤ → ℕ → Point
-pointAt fixes k = record { latitude = getD fixes (3 * k) (pos 0); longitude = getD fixes (3 * k + 1) (pos 0) }
+abbrev pub fixPoint : List ℤ → ℕ → Point
+fixPoint fixes k = record { latitude = getD fixes (3 * k) (pos 0); longitude = getD fixes (3 * k + 1) (pos 0) }
 
-abbrev pub heightAt : List ℤ → ℕ → ℤ
-heightAt fixes k = getD fixes (3 * k + 2) (pos 0)
+abbrev pub fixHeight : List ℤ → ℕ → ℤ
+fixHeight fixes k = getD fixes (3 * k + 2) (pos 0)
+
+-- A conversion's answer to fix k.
+abbrev pub atFix : (Point → ℤ → Outcome Position) → List ℤ → ℕ → Outcome Position
+atFix single fixes k = single (fixPoint fixes k) (fixHeight fixes k)
 
 -- The count fits an i64: it is at most 5, as either way gives it (proofs/Counts.antt, `count-fits`).
 abbrev pub CountAtMostFive : Outcome Position → Type 0

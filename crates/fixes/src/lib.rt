@@ -1,8 +1,9 @@
 // Lists of fixes: one call converts all its fixes the same way, out or back, into the answer list that is lent to it.
+use image::layout_for;
 use image::open;
-use numbers::refusal_number;
+use refusals::refusal_number;
 use rules::Answer;
-use rules::Geometry;
+use rules::Layout;
 use rules::Opened;
 use rules::Point;
 use rules::Refusal;
@@ -13,17 +14,17 @@ ghost use mathlib.Core.List.{_++_, _∷_, []};
 ghost use mathlib.Core.Path.{_≡_};
 ghost use Prim.Native.Nat.{_+_, _*_, _≤_, _<_};
 ghost use lib.ListN.{length, drop};
-ghost use Rattle.rules.specs.Answers.{values, statusOf, after};
+ghost use Rattle.rules.specs.Answers.{statusOf, after};
 ghost use Rattle.rules.specs.Image.{gridOf};
-ghost use Rattle.rules.specs.Questions.{opening};
+ghost use Rattle.rules.specs.Limits.{Open};
 ghost use Rattle.rules.specs.Ways.{sourceOf, convertOver, answerOf};
-ghost use Rattle.rules.specs.Lists.{fiveOf, answersOf, question14, convertList, listOut, listBack};
-ghost use Rattle.fixes.specs.Fix.{pointAt, heightAt, CountAtMostFive};
+ghost use Rattle.rules.specs.Lists.{fiveOf, answersOf, question14, convertList, listOut, listBack, afterOut, afterBack};
+ghost use Rattle.fixes.specs.Fix.{atFix, CountAtMostFive};
 
 // All fixes out: 0 with every answer written, or the number of the question that left the answer list unchanged.
 pub fn list_out(image: &[u8], fixes: &[i64], answers: &mut [i64]) -> i64
     ensures number { λ r. ⌜ r ≡ statusOf (listOut (now (image .entry)) (now (fixes .entry)) (now (answers .entry))) ⌝ }
-    ensures answers { λ _. ⌜ now (answers .exit) ≡ after (listOut (now (image .entry)) (now (fixes .entry)) (now (answers .entry))) (now (answers .entry)) ⌝ }
+    ensures answers { λ _. ⌜ now (answers .exit) ≡ afterOut (now (image .entry)) (now (fixes .entry)) (now (answers .entry)) ⌝ }
 {
     convert_list(Way::Out, image, fixes, answers)
 }
@@ -31,7 +32,7 @@ pub fn list_out(image: &[u8], fixes: &[i64], answers: &mut [i64]) -> i64
 // All fixes back, likewise.
 pub fn list_back(image: &[u8], fixes: &[i64], answers: &mut [i64]) -> i64
     ensures number { λ r. ⌜ r ≡ statusOf (listBack (now (image .entry)) (now (fixes .entry)) (now (answers .entry))) ⌝ }
-    ensures answers { λ _. ⌜ now (answers .exit) ≡ after (listBack (now (image .entry)) (now (fixes .entry)) (now (answers .entry))) (now (answers .entry)) ⌝ }
+    ensures answers { λ _. ⌜ now (answers .exit) ≡ afterBack (now (image .entry)) (now (fixes .entry)) (now (answers .entry)) ⌝ }
 {
     convert_list(Way::Back, image, fixes, answers)
 }
@@ -39,14 +40,15 @@ pub fn list_back(image: &[u8], fixes: &[i64], answers: &mut [i64]) -> i64
 // Questions 1 to 6, then 14, then each fix in turn.
 fn convert_list(way: Way, image: &[u8], fixes: &[i64], answers: &mut [i64]) -> i64
     ensures number { λ r. ⌜ r ≡ statusOf (convertList way (now (image .entry)) (now (fixes .entry)) (now (answers .entry))) ⌝ }
-    ensures answers { λ _. ⌜ now (answers .exit) ≡ after (convertList way (now (image .entry)) (now (fixes .entry)) (now (answers .entry))) (now (answers .entry)) ⌝ }
+    ensures answers { λ _. ⌜ now (answers .exit)
+        ≡ after (convertList way (now (image .entry)) (now (fixes .entry)) (now (answers .entry))) (now (answers .entry)) ⌝ }
 {
     match open(image) {
-        Opened::Grid(g) => {
+        Opened::Nodes(n) => {
             if !lengths_pass(fixes, answers) {
                 return refusal_number(Refusal::ListLengths);
             }
-            convert_all(way, image, g, fixes, answers);
+            convert_all(way, image, layout_for(n), fixes, answers);
             0
         }
         Opened::Refused(r) => refusal_number(r),
@@ -66,14 +68,14 @@ fn lengths_pass(fixes: &[i64], answers: &[i64]) -> bool
 }
 
 // Converts every fix. The rest of the answer list, from 5 × k onward, is lent on to the writer of the answer to fix k.
-fn convert_all(way: Way, image: &[u8], g: Geometry, fixes: &[i64], answers: &mut [i64])
-    requires { ⌜ (opening (now image) ≡ values g) × (question14 (length (now fixes)) (length (now answers)) ≡ true) ⌝ }
-    ensures { λ _. ⌜ now (answers .exit) ≡ answersOf (convertOver way (sourceOf (gridOf (now (image .entry)) g))) (now (fixes .entry)) ⌝ }
+fn convert_all(way: Way, image: &[u8], l: Layout, fixes: &[i64], answers: &mut [i64])
+    requires { ⌜ Open (length (now image)) l × (question14 (length (now fixes)) (length (now answers)) ≡ true) ⌝ }
+    ensures { λ _. ⌜ now (answers .exit) ≡ answersOf (convertOver way (sourceOf (gridOf (now (image .entry)) l))) (now (fixes .entry)) ⌝ }
 {
     let n = fixes.len() / 3;
     let mut k = 0;
     while k < n {
-        let a = convert_fix(way, image, g, fixes, k);
+        let a = convert_fix(way, image, l, fixes, k);
         let to = 5 * k;
         write_answer(&mut answers[to..], a);
         k += 1;
@@ -81,9 +83,9 @@ fn convert_all(way: Way, image: &[u8], g: Geometry, fixes: &[i64], answers: &mut
 }
 
 // The answer to fix k, over an opened image.
-fn convert_fix(way: Way, image: &[u8], g: Geometry, fixes: &[i64], k: usize) -> Answer
-    requires { ⌜ (opening (now image) ≡ values g) × (3 * k + 2 < length (now fixes)) ⌝ }
-    ensures { λ r. ⌜ answerOf r ≡ convertOver way (sourceOf (gridOf (now (image .entry)) g)) (pointAt (now (fixes .entry)) k) (heightAt (now (fixes .entry)) k) ⌝ }
+fn convert_fix(way: Way, image: &[u8], l: Layout, fixes: &[i64], k: usize) -> Answer
+    requires { ⌜ Open (length (now image)) l × (3 * k + 2 < length (now fixes)) ⌝ }
+    ensures { λ r. ⌜ answerOf r ≡ atFix (convertOver way (sourceOf (gridOf (now (image .entry)) l))) (now (fixes .entry)) k ⌝ }
 {
     let at = 3 * k;
     let latitude = fixes[at];
@@ -93,7 +95,7 @@ fn convert_fix(way: Way, image: &[u8], g: Geometry, fixes: &[i64], k: usize) -> 
         latitude,
         longitude,
     };
-    convert_over(way, image, g, p, height)
+    convert_over(way, image, l, p, height)
 }
 
 // Writes an answer at the front of the rest of the answer list: its values and 0, or four zeros and the number.
@@ -116,7 +118,7 @@ fn write_answer(rest: &mut [i64], a: Answer)
     }
 }
 
-// Five numbers at the front of the part that is lent; what follows them stays.
+// Five numbers at the front of the part that is lent; what follows them is unchanged.
 fn write_five(rest: &mut [i64], a: i64, b: i64, c: i64, d: i64, e: i64)
     requires { ⌜ 5 ≤ length (now rest) ⌝ }
     ensures { λ _. ⌜ now (rest .exit) ≡ (a ∷ b ∷ c ∷ d ∷ e ∷ []) ++ drop 5 (now (rest .entry)) ⌝ }

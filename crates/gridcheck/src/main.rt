@@ -1,5 +1,7 @@
-// The program gridcheck: reads one grid image of at most 65,536 bytes from standard input and prints the grid check's findings, or the refusal.
-use numbers::refusal_number;
+// The program gridcheck: reads one grid image of at most 65,536 bytes from standard input and prints the grid check's findings, or the
+// refusal.
+use numbers::magnitude;
+use refusals::refusal_number;
 use rules::Checked;
 use rules::Findings;
 use rules::Steps;
@@ -30,7 +32,7 @@ fn report(image: &[u8]) {
         }
         Checked::Refused(r) => {
             io::write_all(1, b"refused ");
-            io::print_decimal(1, numbers::magnitude(refusal_number(r)));
+            io::print_decimal(1, magnitude(refusal_number(r)));
         }
     }
     io::write_all(1, b"\n");
@@ -47,7 +49,7 @@ fn print_findings(f: Findings) {
 
 fn print_steps(s: Steps) {
     io::write_all(1, b" ");
-    io::print_decimal(1, s.north);
+    io::print_decimal(1, s.northward);
     io::write_all(1, b" ");
-    io::print_decimal(1, s.east);
+    io::print_decimal(1, s.eastward);
 }

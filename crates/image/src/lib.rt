@@ -1,22 +1,23 @@
-// The image opened: its trailer read, and questions 1 to 6 put to it.
+// The opening of an image: its trailer is read, questions 1 to 6 are asked, and the layout of its values is answered.
+use geometry::bounds_pass;
+use geometry::counts_pass;
+use geometry::spacings_pass;
 use numbers::i64_at;
-use numbers::is_between;
-use numbers::is_within;
 use numbers::u32_at;
 use rules::Axis;
 use rules::Geometry;
+use rules::Layout;
+use rules::Nodes;
 use rules::Opened;
+use rules::Plane;
 use rules::Refusal;
 use rules::Trailer;
 ghost use mathlib.Core.Path.{_≡_};
 ghost use mathlib.Core.Bool.{true};
-ghost use Prim.Native.Nat.{_≤_};
-ghost use lib.IntN.{natAbs};
+ghost use Prim.Native.Nat.{_+_, _≤_, _<_};
 ghost use lib.ListN.{length};
-ghost use Rattle.rules.specs.Units.{degrees};
-ghost use Rattle.rules.specs.Image.{trailerOf, farBound};
-ghost use Rattle.rules.specs.Questions.{question2, question3, question4, boundsWithin, question5, question6, judge, opening, openedOf};
-ghost use Rattle.rules.specs.Limits.{Sized};
+ghost use Rattle.rules.specs.Image.{trailerOf, layoutFor};
+ghost use Rattle.rules.specs.Questions.{question2, question3, question6, judge, opening, openedOf};
 
 // Questions 1 to 6, of any image.
 pub fn open(image: &[u8]) -> Opened
@@ -48,7 +49,39 @@ fn judged(t: Trailer, size: u64) -> Opened
     if !bytes_pass(t, size) {
         return Opened::Refused(Refusal::NodeBytes);
     }
-    Opened::Grid(g)
+    Opened::Nodes(Nodes {
+        geometry: g,
+        first: size - t.back,
+    })
+}
+
+// The layout of an opened image's planes: a node is latitude correction, longitude correction and quasi-geoid height, of four bytes each.
+pub fn layout_for(n: Nodes) -> Layout
+    requires { ⌜ n .first + 8 < 18446744073709551616 ⌝ }
+    ensures { λ r. ⌜ r ≡ layoutFor n ⌝ }
+{
+    let geometry = n.geometry;
+    let first = n.first;
+    let latitude = Plane {
+        geometry,
+        first,
+        stride: 12,
+    };
+    let longitude = Plane {
+        geometry,
+        first: first + 4,
+        stride: 12,
+    };
+    let height = Plane {
+        geometry,
+        first: first + 8,
+        stride: 12,
+    };
+    Layout {
+        latitude,
+        longitude,
+        height,
+    }
 }
 
 // The last 40 bytes.
@@ -59,20 +92,20 @@ fn read_trailer(image: &[u8]) -> Trailer
     let at = image.len() - 40;
     let south = i64_at(image, at);
     let west = i64_at(image, at + 8);
-    let north_step = u32_at(image, at + 16);
-    let east_step = u32_at(image, at + 20);
+    let latitude_spacing = u32_at(image, at + 16);
+    let longitude_spacing = u32_at(image, at + 20);
     let rows = u32_at(image, at + 24);
     let columns = u32_at(image, at + 28);
     let back = u32_at(image, at + 32);
     let edition = u32_at(image, at + 36);
     let latitude = Axis {
         start: south,
-        spacing: north_step,
+        spacing: latitude_spacing,
         count: rows,
     };
     let longitude = Axis {
         start: west,
-        spacing: east_step,
+        spacing: longitude_spacing,
         count: columns,
     };
     let geometry = Geometry {
@@ -91,62 +124,6 @@ fn edition_passes(t: Trailer) -> bool
     ensures { λ r. ⌜ r ≡ question2 t ⌝ }
 {
     t.edition == 1
-}
-
-// Question 3.
-fn counts_pass(g: Geometry) -> bool
-    ensures { λ r. ⌜ r ≡ question3 g ⌝ }
-{
-    if is_between(g.latitude.count, 2, 4096) {
-        is_between(g.longitude.count, 2, 4096)
-    } else {
-        false
-    }
-}
-
-// Question 4.
-fn spacings_pass(g: Geometry) -> bool
-    ensures { λ r. ⌜ r ≡ question4 g ⌝ }
-{
-    if is_between(g.latitude.spacing, 1, 100_000_000) {
-        is_between(g.longitude.spacing, 1, 100_000_000)
-    } else {
-        false
-    }
-}
-
-// Question 5.
-fn bounds_pass(g: Geometry) -> bool
-    requires { ⌜ Sized (g .latitude) × Sized (g .longitude) ⌝ }
-    ensures { λ r. ⌜ r ≡ question5 g ⌝ }
-{
-    let latitude = g.latitude;
-    let longitude = g.longitude;
-    if bounds_within(90_000_000_000, latitude) {
-        bounds_within(180_000_000_000, longitude)
-    } else {
-        false
-    }
-}
-
-// Both bounds of an axis are within the limit. The first is tested before the second is computed, so the sum fits.
-fn bounds_within(limit: u64, a: Axis) -> bool
-    requires { ⌜ (limit ≤ degrees 180) × Sized a ⌝ }
-    ensures { λ r. ⌜ r ≡ boundsWithin limit a ⌝ }
-{
-    if is_within(a.start, limit) {
-        is_within(far_bound(a), limit)
-    } else {
-        false
-    }
-}
-
-// The bound at the other end of an axis.
-pub fn far_bound(a: Axis) -> i64
-    requires { ⌜ (natAbs (a .start) ≤ degrees 180) × Sized a ⌝ }
-    ensures { λ r. ⌜ r ≡ farBound a ⌝ }
-{
-    a.start + ((a.count - 1) * a.spacing) as i64
 }
 
 // Question 6, of an image of so many bytes.

@@ -109,8 +109,8 @@ var z = record { hi = up z; lo = down z; is = refl }
 abbrev pub lit : (n : ℕ) → Difference (pos n)
 lit n = record { hi = n; lo = 0; is = omega arith }
 
-abbrev pub minus : {x : ℤ} → Difference x → Difference (negℤ x)
-minus {x} d = record { hi = d .lo; lo = d .hi; is = omega (arith, neg-up x, neg-down x, d .is) }
+abbrev pub negated : {x : ℤ} → Difference x → Difference (negℤ x)
+negated {x} d = record { hi = d .lo; lo = d .hi; is = omega (arith, neg-up x, neg-down x, d .is) }
 
 infixl 6 _⊕_
 abbrev pub _⊕_ : {x y : ℤ} → Difference x → Difference y → Difference (x +ℤ y)
@@ -118,13 +118,20 @@ _⊕_ {x} {y} d e = record { hi = d .hi + e .hi; lo = d .lo + e .lo; is = omega 
 
 infixl 6 _⊖_
 abbrev pub _⊖_ : {x y : ℤ} → Difference x → Difference y → Difference (x -ℤ y)
-d ⊖ e = d ⊕ minus e
+d ⊖ e = d ⊕ negated e
 
-pub mul-is : (a a' b b' p q r s : ℕ) → a + q ≡ p + a' → b + s ≡ r + b' → a * b + a' * b' + (p * s + q * r) ≡ p * r + q * s + (a * b' + a' * b)
+-- the product of a − a' = p − q and b − b' = r − s
+pub mul-is : (a a' b b' p q r s : ℕ) → a + q ≡ p + a' → b + s ≡ r + b'
+    → a * b + a' * b' + (p * s + q * r) ≡ p * r + q * s + (a * b' + a' * b)
 mul-is a a' b b' p q r s h k =
     omega (arith, ap (λ n. n * b) h, ap (λ n. n * b') h, ap (λ n. p * n) k, ap (λ n. q * n) k)
 
 infixl 7 _⊗_
 abbrev pub _⊗_ : {x y : ℤ} → Difference x → Difference y → Difference (x *ℤ y)
 _⊗_ {x} {y} d e =
-    record { hi = d .hi * e .hi + d .lo * e .lo; lo = d .hi * e .lo + d .lo * e .hi; is = omega (arith, mul-parts x y, mul-is (up x) (down x) (up y) (down y) (d .hi) (d .lo) (e .hi) (e .lo) (d .is) (e .is)) }
+    let product = mul-is (up x) (down x) (up y) (down y) (d .hi) (d .lo) (e .hi) (e .lo) (d .is) (e .is) in
+    record {
+      hi = d .hi * e .hi + d .lo * e .lo;
+      lo = d .hi * e .lo + d .lo * e .hi;
+      is = omega (arith, mul-parts x y, product);
+    }

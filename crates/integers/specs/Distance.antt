@@ -4,9 +4,10 @@ use Prim.Native.Nat.{ℕ, suc, _+_, _*_, _≤_, max}
 use native.Mathlib.Nat.{mul-le-mul}
 use native.Mathlib.Omega.{arith}
 use lib.IntN.{ℤ, pos, negsuc, natAbs, _+ℤ_, _-ℤ_, _*ℤ_}
-use Rattle.integers.specs.Difference.{up, down, Difference, var, lit, minus, _⊕_, _⊖_}
+use Rattle.integers.specs.Difference.{up, down, Difference, var, lit, negated, _⊕_, _⊖_}
 
--- The two bounds are on the parts, so `omega` reads and proves them with nothing listed; `near-abs` and `abs-near` say that they are |x − y| ≤ k
+-- The two bounds are on the parts, so `omega` reads and proves them with nothing listed; `near-abs` and `abs-near` say that they are
+-- |x − y| ≤ k.
 pub record Near (k : ℕ) (x y : ℤ) : Type 0 where
   pub above : up x + down y ≤ up y + down x + k
   pub below : up y + down x ≤ up x + down y + k
@@ -46,8 +47,8 @@ abs-add x y = omega (arith, abs-is (var x ⊕ var y), abs-is (var x), abs-is (va
 
 pub abs-mul : (x y : ℤ) → natAbs (x *ℤ y) ≡ natAbs x * natAbs y
 abs-mul (pos a) (pos b) = refl
-abs-mul (pos a) (negsuc b) = omega (arith, abs-is (minus (lit (a * suc b))))
-abs-mul (negsuc a) (pos b) = omega (arith, abs-is (minus (lit (suc a * b))))
+abs-mul (pos a) (negsuc b) = omega (arith, abs-is (negated (lit (a * suc b))))
+abs-mul (negsuc a) (pos b) = omega (arith, abs-is (negated (lit (suc a * b))))
 abs-mul (negsuc a) (negsuc b) = refl
 
 pub abs-mul-≤ : {A B : ℕ} (x y : ℤ) → natAbs x ≤ A → natAbs y ≤ B → natAbs (x *ℤ y) ≤ A * B

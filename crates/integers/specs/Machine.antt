@@ -13,7 +13,7 @@ use borrow.Author.Tests.{ltb-true, ltb-false, leb-true, leb-false, lt-ltb, le-lt
 use Rattle.integers.specs.Difference.{up, down, order, ≤ℤ-parts, <ℤ-parts, parts-≤ℤ, parts-<ℤ, Difference, var, _⊕_, _⊖_}
 use Rattle.integers.specs.Distance.{size}
 
--- A range for `omega` to find by itself: with no case to split, it leaves open the one number 2 ^ hbits above the range
+-- A range for `omega` to find by itself: with no case to split, it does not exclude the number 2 ^ hbits, one above the range
 pub sfits-parts : (w : Width) (z : ℤ) → SFits w z → up z + down z ≤ 2 ^ hbits w
 sfits-parts w (pos n) f = omega (arith, f .sfits)
 sfits-parts w (negsuc n) f = omega (arith, f .sfits)
@@ -22,7 +22,7 @@ sfits-parts w (negsuc n) f = omega (arith, f .sfits)
 pub record Range (w : Width) (z : ℤ) : Type 0 where
   pub above : up z < 2 ^ hbits w
   pub below : down z ≤ 2 ^ hbits w
-  pub total : up z + down z ≤ 2 ^ hbits w
+  pub both : up z + down z ≤ 2 ^ hbits w
 
 pub range : {w : Width} {z : ℤ} → SFits w z → Range w z
 range {w} {z = pos n} f = omega (arith, f .sfits)
@@ -32,7 +32,7 @@ pub parts-sfits : (w : Width) (z : ℤ) → max (down z + down z) (suc (up z + u
 parts-sfits w (pos n) h = record { sfits = omega arith }
 parts-sfits w (negsuc n) h = record { sfits = omega arith }
 
--- ---- a test's outcome, as a condition leaves it, and as a clause asks it
+-- ---- a test's outcome, from a branch that was taken or not, and for a clause
 by-true : {P : Type 0} (b : Bool) → (T b → P) → b ≡ true → P
 by-true b f e = f (subst T (sym e) tt)
 
@@ -77,13 +77,18 @@ is-leZ x y h = to-true (leZ x y) (parts-≤ℤ x y h .le)
 pub not-leZ : (x y : ℤ) → up y + down x < up x + down y → leZ x y ≡ false
 not-leZ x y h = to-false (leZ x y) (λ t. let k = ≤ℤ-parts x y (leZ-yes t) in omega arith)
 
--- not negative, as a cast to an unsigned type asks
+-- not negative, as a cast to an unsigned type requires
 pub is-nonNeg : (z : ℤ) → down z ≤ up z → T (nonNeg z)
 is-nonNeg (pos n) h = tt
 is-nonNeg (negsuc n) h = let k : ⊥ = omega arith in absurd k
 
+-- the tests of integers, and those of naturals
+pub ruleset signed-tests = (ltZ-true, ltZ-false, leZ-true, leZ-false, is-ltZ, not-ltZ, is-leZ, not-leZ, is-nonNeg)
+
+pub ruleset natural-tests = (ltb-true, ltb-false, leb-true, leb-false, lt-ltb, le-ltb, le-leb, lt-leb, eqb-true, eqb-false, eq-eqb, ne-eqb)
+
 -- all that `omega` reads and proves on ℤ: equality, order, ranges and tests
-pub ruleset zarith = (arith, order, sfits-parts, parts-sfits, ltZ-true, ltZ-false, leZ-true, leZ-false, is-ltZ, not-ltZ, is-leZ, not-leZ, is-nonNeg, ltb-true, ltb-false, leb-true, leb-false, lt-ltb, le-ltb, le-leb, lt-leb, eqb-true, eqb-false, eq-eqb, ne-eqb)
+pub ruleset zarith = (arith, order, sfits-parts, parts-sfits, signed-tests, natural-tests)
 
 -- ---- what the machine reads back from bits, as difference forms
 -- of the bits of a number that fits, the number
@@ -102,19 +107,19 @@ read-result w z h = read-back (record { sfits = h }) (var z)
 abbrev pub read-cast : (w : Width) (n : ℕ) → n < 2 ^ hbits w → Difference (toZ w n)
 read-cast w n h = record { hi = n; lo = 0; is = subst (λ (y : ℤ). up y + 0 ≡ n + down y) (sym (toZ-pos w h)) refl }
 
--- A test of two signed numbers that fit, as the code leaves it, on the numbers themselves.
+-- A test of two signed numbers that fit, as the code makes it on their bits, on the numbers themselves.
 pub plain-le : {w : Width} {x y : ℤ} → SFits w x → SFits w y → {b : Bool} → leZ (toZ w (ofZ w x)) (toZ w (ofZ w y)) ≡ b → leZ x y ≡ b
 plain-le fx fy e = simp (toZ-ofZ fx, toZ-ofZ fy) at e
 
--- the signed result z of a call: `kept w64 (c .f .result) (c .f .ok)`
-pub kept : (w : Width) (z : ℤ) → mag z < 2 ^ hbits w → toZ w (ofZ w z) ≡ z
-kept w z h = toZ-ofZ (record { sfits = h })
+-- the signed result z of a call: `reads-back w64 (c .f .result) (c .f .ok)`
+pub reads-back : (w : Width) (z : ℤ) → mag z < 2 ^ hbits w → toZ w (ofZ w z) ≡ z
+reads-back w z h = toZ-ofZ (record { sfits = h })
 
 -- and what the call ensures of it: `told w64 (c .f .ok) (c .f .ensures)`
 pub told : (w : Width) {z y : ℤ} → mag z < 2 ^ hbits w → z ≡ y → toZ w (ofZ w z) ≡ y
-told w {z} h e = kept w z h ∙ e
+told w {z} h e = reads-back w z h ∙ e
 
--- ---- an operation on two parameters: that it fits, as the machine asks it, and what it gives, from the range of the plain result
+-- ---- an operation on two parameters: that it fits, as the machine requires, and what it gives, from the range of the plain result
 module _ {w : Width} {x y : ℤ} (fx : SFits w x) (fy : SFits w y) where
   pub add-fits : SFits w (x +ℤ y) → SFits w (toZ w (ofZ w x) +ℤ toZ w (ofZ w y))
   add-fits f = simp (toZ-ofZ fx, toZ-ofZ fy) f

@@ -14,15 +14,16 @@ floorDiv (negsuc n) d = negsuc (n / d)
 
 -- q is z / d rounded down, d·q ≤ z < d·q + d, on the parts: `omega` reads and proves it with nothing listed
 pub record Floor (d : ℕ) (z q : ℤ) : Type 0 where
-  pub lo : d * up q + down z ≤ up z + d * down q
-  pub hi : up z + d * down q < d * up q + d + down z
+  pub low : d * up q + down z ≤ up z + d * down q
+  pub high : up z + d * down q < d * up q + d + down z
 
 pub floor-of : (z : ℤ) (d : ℕ) → 0 < d → Floor d z (floorDiv z d)
 floor-of (pos a) d h = omega (arith, mul-div-le a d, lt-mul-div-succ a h)
 floor-of (negsuc a) d h = omega (arith, mul-div-le a d, lt-mul-div-succ a h)
 
 -- z' is at most d·m above z, so its quotient is at most m above
-pub floor-step : {d : ℕ} {z z' q q' : ℤ} (m : ℕ) → Floor d z q → Floor d z' q' → up z' + down z ≤ up z + down z' + d * m → up q' + down q ≤ up q + down q' + m
+pub floor-step : {d : ℕ} {z z' q q' : ℤ} (m : ℕ) → Floor d z q → Floor d z' q'
+    → up z' + down z ≤ up z + down z' + d * m → up q' + down q ≤ up q + down q' + m
 floor-step {d} {z} {z'} {q} {q'} m f g h =
     let k : up q' + down q < up q + down q' + m + 1 = lt-of-mul-lt-mul-left d (omega arith) in
     omega arith
@@ -42,8 +43,8 @@ roundHalfUp num den = floorDiv (pos 2 *ℤ num +ℤ pos den) (2 * den)
 
 -- r is num / den to the nearest, halves up: 2·den·r ≤ 2·num + den < 2·den·r + 2·den, on the parts
 pub record Round (den : ℕ) (num r : ℤ) : Type 0 where
-  pub lo : 2 * (den * up r) + 2 * down num ≤ 2 * up num + den + 2 * (den * down r)
-  pub hi : 2 * up num + 2 * (den * down r) < 2 * (den * up r) + den + 2 * down num
+  pub low : 2 * (den * up r) + 2 * down num ≤ 2 * up num + den + 2 * (den * down r)
+  pub high : 2 * up num + 2 * (den * down r) < 2 * (den * up r) + den + 2 * down num
 
 to-floor : (den : ℕ) (num r : ℤ) → Round den num r → Floor (2 * den) (pos 2 *ℤ num +ℤ pos den) r
 to-floor den num r f = omega (arith, lit 2 ⊗ var num ⊕ lit den)

@@ -1,152 +1,184 @@
--- The lookup in terms of the held cell around a point, the limits that question 9 establishes of its values, and the cell kept for a
+-- The lookups in terms of the held cell around a point, the limits that question 9 establishes of the values there, and the cell held for a
 -- further point.
-use mathlib.Core.Bool.{true, _&&_}
+use mathlib.Core.Bool.{true}
 use mathlib.Core.List.{List}
-use mathlib.Core.Path.{_≡_, refl, sym, _∙_}
-use Prim.Native.Nat.{ℕ, _≤_}
+use mathlib.Core.Path.{_≡_, refl, sym, subst, _∙_}
+use Prim.Native.Nat.{ℕ, _^_, _≤_, _<_}
 use native.Mathlib.Nat.{mul-pos}
 use native.Mathlib.Omega.{arith}
 use lib.Dec.{leb}
 use lib.IntN.{ℤ, natAbs}
-use Rattle.integers.specs.Machine.{zarith}
-use Rattle.integers.specs.Booleans.{and-left, and-right}
+use lib.ListN.{length}
+use lib.Signed.{mag}
+use mir.Syntax.{w64}
+use mir.Val.{toZ, ofZ, hbits}
+use Rattle.integers.specs.Machine.{zarith, reads-back}
+use Rattle.integers.specs.Booleans.{and-left, and-right, all-three}
 use Rattle.rules.specs.declared.Axis.{Axis}
 use Rattle.rules.specs.declared.Geometry.{Geometry}
+use Rattle.rules.specs.declared.Layout.{Layout}
 use Rattle.rules.specs.declared.Point.{Point}
-use Rattle.rules.specs.declared.Node.{Node}
+use Rattle.rules.specs.declared.Square.{Square}
+use Rattle.rules.specs.Units.{correctionLimit, quasiGeoidLimit}
 use Rattle.rules.specs.Answers.{values, ask}
-use Rattle.rules.specs.Image.{Grid}
-use Rattle.rules.specs.Limits.{Sized, Open, NodeWithin}
-use Rattle.rules.specs.Bilinear.{offset, partOf, cellFor, squareOf, bilinear, valueAt}
-use Rattle.rules.specs.Lookup.{inside, nodePasses, cellPasses, question9, lookup}
-use Rattle.rules.specs.Ways.{sourceOf}
-use Rattle.rules.proofs.Cells.{offset-most, part-most, cell-start, cell-most, cell-is, on-latitude, on-longitude}
-use Rattle.rules.proofs.Answers.{asked, asked-then}
-use Rattle.rules.proofs.Limits.{node-within}
+use Rattle.rules.specs.Image.{Grid, gridOf}
+use Rattle.rules.specs.Limits.{Sized, GeometryPasses, Open, CornersWithin, CorrectionWithin}
+use Rattle.rules.specs.Bilinear.{offset, partOf, cellFor, corners, bilinear, valueAt}
+use Rattle.rules.specs.Lookup.{inside, squarePasses, question9, correctionLookup, heightLookup}
+use Rattle.rules.proofs.Cells.{part-for-most, cell-start, cell-most, cell-nodes, cell-is, on-latitude, on-longitude}
+use Rattle.rules.proofs.Answers.{asked}
+use Rattle.rules.proofs.Limits.{corners-within}
 use Rattle.rules.proofs.Weights.{value-within}
-use Rattle.bilinear.specs.Mean.{CornersWithin, InCell}
-use Rattle.nodes.specs.Cell.{cellAt, cornersPass, valueOf, square}
-use Rattle.nodes.specs.declared.Value.{Value}
-use Rattle.nodes.specs.declared.Value.the-variants as value
-use Rattle.nodes.specs.declared.Cell.{Cell}
+use Rattle.axis.specs.Place.{reaches}
+use Rattle.rules.specs.declared.Runs.{Runs}
 use Rattle.lookup.specs.declared.HeldCell.{HeldCell}
-use Rattle.lookup.specs.declared.PlaceInCell.{PlaceInCell}
-use Rattle.lookup.specs.Values.{sideFor, heldAt, Bounded, placeIn, reaches, liesIn, Holds, valueIn, valuesIn, correctionsIn, heightIn}
+use Rattle.lookup.specs.Held.{runsOf, layoutFrom, square, cornersPass, sideFor, heldCell, heldAt, liesIn}
+use Rattle.lookup.specs.Held.{valueBetween, correctionsIn, heightIn}
+use Rattle.lookup.specs.Held.{Bounded, OpenAround, Holds}
 
--- The lookup puts question 9 to the corners of the point's cell, and weighs their values.
-lookup-is : (g : Grid) (p : Point) → let h = heldAt g p in lookup g p ≡ ask (h .passes) 9 (values (valuesIn h (g .geometry) p))
-unfolding lookup question9 cellPasses cornersPass cellAt valueAt partOf heldAt valueIn valuesIn correctionsIn heightIn
-lookup-is g p = refl
+-- The corrections' lookup puts question 9 to the corners of the point's cell, and weighs the corrections there.
+pub corrections-from : (g : Grid) (p : Point) (h : HeldCell) → h ≡ heldAt g p
+    → correctionLookup g p ≡ ask (h .passes) 9 (values (correctionsIn h (g .corrections) p))
+unfolding correctionLookup question9 cornersPass heldAt heldCell valueAt partOf valueBetween
+corrections-from g p h e = rw e refl
 
--- The same of the held cell h around the point, and of what the lookup gives the two ways.
-module _ (g : Grid) (p : Point) (h : HeldCell) (e : h ≡ heldAt g p) where
-  pub lookup-in : lookup g p ≡ ask (h .passes) 9 (values (valuesIn h (g .geometry) p))
-  lookup-in = rw e (lookup-is g p)
+-- So does the height's, where heights have the corrections' geometry.
+pub height-from : (g : Grid) (p : Point) (h : HeldCell) → h ≡ heldAt g p → g .heights ≡ g .corrections
+    → heightLookup g p ≡ heightIn h (g .corrections) p
+unfolding heightLookup question9 cornersPass heldAt heldCell valueAt partOf valueBetween
+height-from g p h e same = rw (e, same) refl
 
-  pub corrections-from : sourceOf g .corrections p ≡ ask (h .passes) 9 (values (correctionsIn h (g .geometry) p))
-  unfolding valuesIn
-  corrections-from = rw lookup-in (asked-then (h .passes) 9 (valuesIn h (g .geometry) p) _)
+-- What question 9 says of each plane's corners, in a cell that holds a point and passes.
+pub record Passing (h : HeldCell) : Type 0 where
+  pub latitude : CornersWithin correctionLimit (h .latitude)
+  pub longitude : CornersWithin correctionLimit (h .longitude)
+  pub height : CornersWithin quasiGeoidLimit (h .height)
 
-  pub height-from : sourceOf g .height p ≡ ask (h .passes) 9 (values (heightIn h (g .geometry) p))
-  unfolding valuesIn
-  height-from = rw lookup-in (asked-then (h .passes) 9 (valuesIn h (g .geometry) p) _)
+pub passing : {h : HeldCell} {g : Geometry} {p : Point} → Holds h g p → h .passes ≡ true → Passing h
+unfolding cornersPass
+passing {h} k t =
+    let latitude = squarePasses correctionLimit (h .latitude) in
+    let longitude = squarePasses correctionLimit (h .longitude) in
+    let a = all-three latitude longitude (squarePasses quasiGeoidLimit (h .height)) (sym (k .asked) ∙ t) in
+    record { latitude = corners-within _ _ (a .0); longitude = corners-within _ _ (a .1); height = corners-within _ _ (a .2) }
 
--- A point in the bounds of an opened image.
-pub bounded : {size : ℕ} {g : Geometry} {p : Point} → Open size g → inside g p ≡ true → Bounded g p
-bounded o i = record { latitude = o .latitude; longitude = o .longitude; point = i }
+-- A point in the bounds of a geometry that passes.
+pub bounded : {g : Geometry} {p : Point} → GeometryPasses g → inside g p ≡ true → Bounded g p
+bounded o i = record { geometry = o; point = i }
 
--- The cell around it holds it.
-pub cell-holds : {size : ℕ} (g : Grid) (p : Point) → Open size (g .geometry) → inside (g .geometry) p ≡ true → Holds (heldAt g p) (g .geometry) p
-unfolding heldAt partOf
-cell-holds g p o i =
-    let a = g .geometry .latitude in
-    let b = g .geometry .longitude in
+-- The cell around a point in the bounds holds it.
+pub cell-holds : (g : Grid) (p : Point) → Bounded (g .corrections) p → Holds (heldAt g p) (g .corrections) p
+unfolding heldAt heldCell partOf
+cell-holds g p b =
+    let a = g .corrections .latitude in
+    let o = g .corrections .longitude in
+    let sized = b .geometry in
     record {
-      bounded = bounded o i;
+      bounded = b;
       south = cell-start a (offset a (p .latitude));
-      west = cell-start b (offset b (p .longitude));
+      west = cell-start o (offset o (p .longitude));
       place = record {
-        north = part-most a (offset a (p .latitude)) (o .latitude .sized) (offset-most a (p .latitude) (on-latitude (g .geometry) p i));
-        east = part-most b (offset b (p .longitude)) (o .longitude .sized) (offset-most b (p .longitude) (on-longitude (g .geometry) p i));
+        u-most = part-for-most a (p .latitude) (sized .latitude .sized) (on-latitude (g .corrections) p (b .point));
+        v-most = part-for-most o (p .longitude) (sized .longitude .sized) (on-longitude (g .corrections) p (b .point));
         latitude-spacing = omega arith;
         longitude-spacing = omega arith;
       };
       asked = refl;
     }
 
+pub held-holds : (g : Grid) (p : Point) (h : HeldCell) → h ≡ heldAt g p → Bounded (g .corrections) p → Holds h (g .corrections) p
+held-holds g p h e b = rw e (cell-holds g p b)
+
+-- The planes of an open layout have one geometry, so it is the layout of its runs.
+pub layout-of-runs : {size : ℕ} {l : Layout} → Open size l → layoutFrom (l .latitude .geometry) (runsOf l) ≡ l
+layout-of-runs {l} o =
+    λ i. record {
+      latitude = l .latitude;
+      longitude = record { geometry = sym (o .longitude-geometry) i; first = l .longitude .first; stride = l .longitude .stride };
+      height = record { geometry = sym (o .height-geometry) i; first = l .height .first; stride = l .height .stride };
+    }
+
+-- What `cell_around` asks and gives, where it is given the runs of a layout.
+module _ (b : List ℕ) {l : Layout} {r : Runs} (o : Open (length b) l) (e : r ≡ runsOf l) where
+  runs-layout : layoutFrom (l .latitude .geometry) r ≡ l
+  runs-layout = rw e (layout-of-runs o)
+
+  pub around-runs : {p : Point} → inside (l .latitude .geometry) p ≡ true → OpenAround b (layoutFrom (l .latitude .geometry) r) p
+  around-runs i = record { layout = subst (Open (length b)) (sym runs-layout) o; point = i }
+
+  pub held-runs : (p : Point) {h : HeldCell} → h ≡ heldAt (gridOf b (layoutFrom (l .latitude .geometry) r)) p → h ≡ heldAt (gridOf b l) p
+  held-runs p h = h ∙ (λ i. heldAt (gridOf b (runs-layout i)) p)
+
+-- The same of an open image around a point, and the height's lookup there.
+pub around-holds : {b : List ℕ} {l : Layout} {p : Point} {h : HeldCell} → OpenAround b l p → h ≡ heldAt (gridOf b l) p
+    → Holds h (l .latitude .geometry) p
+around-holds {b} {l} {p} o e = held-holds (gridOf b l) p _ e (bounded (o .layout .latitude .geometry) (o .point))
+
+pub height-around : {b : List ℕ} {l : Layout} {p : Point} {h : HeldCell} → OpenAround b l p → h ≡ heldAt (gridOf b l) p
+    → heightLookup (gridOf b l) p ≡ heightIn h (l .latitude .geometry) p
+height-around {b} {l} {p} o e = height-from (gridOf b l) p _ e (o .layout .height-geometry)
+
 -- An angle that lies in the cell of another has that cell.
-kept-along : (a : Axis) (z w : ℤ) → Sized a → reaches (sideFor a z) (a .spacing) (offset a w) ≡ true → cellFor a w ≡ cellFor a z
+same-along : (a : Axis) (z w : ℤ) → Sized a → reaches (sideFor a z) (a .spacing) (offset a w) ≡ true → cellFor a w ≡ cellFor a z
 unfolding reaches
-kept-along a z w o h =
+same-along a z w o h =
     let x = offset a w in
     let past = and-left (leb (sideFor a z) x) _ h in
     let near = and-right (leb (sideFor a z) x) _ h in
     cell-is a (cellFor a z) x o (cell-most a (offset a z)) (omega zarith) (omega zarith)
 
--- The cell around a point is that around a further one which lies in it.
-pub kept-cell : {size : ℕ} (g : Grid) (r p : Point) → Open size (g .geometry) → liesIn (heldAt g r) (g .geometry) p ≡ true → heldAt g r ≡ heldAt g p
-unfolding heldAt liesIn
-kept-cell g r p o h =
-    let a = g .geometry .latitude in
-    let b = g .geometry .longitude in
+-- The cell h around a point is that around a further one which lies in it.
+pub same-cell : (g : Grid) (r p : Point) (h : HeldCell) → h ≡ heldAt g r → GeometryPasses (g .corrections)
+    → liesIn h (g .corrections) p ≡ true → h ≡ heldAt g p
+unfolding heldAt heldCell liesIn
+same-cell g r p h e o lies =
+    let a = g .corrections .latitude in
+    let b = g .corrections .longitude in
+    let t = rw e at lies in
     let north = reaches (sideFor a (r .latitude)) (a .spacing) (offset a (p .latitude)) in
-    let n = kept-along a (r .latitude) (p .latitude) (o .latitude .sized) (and-left north _ h) in
-    let e = kept-along b (r .longitude) (p .longitude) (o .longitude .sized) (and-right north _ h) in
-    rw (n, e)
+    let row = same-along a (r .latitude) (p .latitude) (o .latitude .sized) (and-left north _ t) in
+    let column = same-along b (r .longitude) (p .longitude) (o .longitude .sized) (and-right north _ t) in
+    e ∙ rw (row, column)
 
--- Corners that pass question 9 are within the limit of each of the three values.
-corners-within : {M : ℕ} (f : Node → ℤ) → ((n : Node) → NodeWithin n → natAbs (f n) ≤ M) → (c : Cell) → cornersPass c ≡ true → CornersWithin M (squareOf (square f c))
-unfolding cornersPass
-corners-within f small c h =
-    let sw = nodePasses (c .southwest) in
-    let se = nodePasses (c .southeast) in
-    let nw = nodePasses (c .northwest) in
-    let ne = nodePasses (c .northeast) in
-    let south = and-left (sw && se) (nw && ne) h in
-    let north = and-right (sw && se) (nw && ne) h in
-    record {
-      southwest = small _ (node-within (c .southwest) (and-left sw se south));
-      southeast = small _ (node-within (c .southeast) (and-right sw se south));
-      northwest = small _ (node-within (c .northwest) (and-left nw ne north));
-      northeast = small _ (node-within (c .northeast) (and-right nw ne north));
-    }
+-- Corner values that are passed as numbers are read back as they are.
+abbrev bits : ℤ → ℤ
+bits z = toZ w64 (ofZ w64 z)
 
-value-small : (v : Value) (n : Node) → NodeWithin n → natAbs (valueOf v n) ≤ 10000000
-value-small value.LatitudeCorrection n w = w .latitude
-value-small value.LongitudeCorrection n w = w .longitude
-value-small value.Height n w = omega (arith, w .height)
+abbrev pub readBack : Square → Square
+readBack c = square (bits (c .southwest)) (bits (c .southeast)) (bits (c .northwest)) (bits (c .northeast))
 
--- What `weigh` asks of one value's square, and of the point's place, in a held cell that passes question 9.
-pub weighable : (v : Value) {h : HeldCell} {g : Geometry} {p : Point} {l : List (List ℤ)} {at : PlaceInCell} → h .passes ≡ true → Holds h g p → l ≡ square (valueOf v) (h .corners) → at ≡ placeIn h g p
-    → CornersWithin 10000000 (squareOf l) × InCell (at .u) (at .v) (at .p) (at .q)
-weighable v {h} t k s e = (rw s (corners-within (valueOf v) (value-small v) (h .corners) (sym (k .asked) ∙ t)), rw e (k .place))
+abbrev Narrow : ℤ → Type 0
+Narrow z = mag z < 2 ^ hbits w64
 
--- What `weigh` ensures of them is the value there.
-pub weighed-is : (v : Value) (h : HeldCell) (g : Geometry) (p : Point) {l : List (List ℤ)} {at : PlaceInCell} {z : ℤ} → z ≡ bilinear (squareOf l) (at .u) (at .v) (at .p) (at .q)
-    → l ≡ square (valueOf v) (h .corners) → at ≡ placeIn h g p → z ≡ valueIn v h g p
-unfolding valueIn
-weighed-is v h g p w s e = w ∙ (λ i. bilinear (squareOf (s i)) (e i .u) (e i .v) (e i .p) (e i .q))
+pub square-back : (c : Square) → Narrow (c .southwest) → Narrow (c .southeast) → Narrow (c .northwest) → Narrow (c .northeast)
+    → readBack c ≡ c
+square-back c sw se nw ne =
+    λ i. square
+    (reads-back w64 (c .southwest) sw i) (reads-back w64 (c .southeast) se i)
+    (reads-back w64 (c .northwest) nw i) (reads-back w64 (c .northeast) ne i)
 
--- The values in a held cell that passes question 9 are within its limits.
-module _ {h : HeldCell} {g : Geometry} {p : Point} (t : h .passes ≡ true) (k : Holds h g p) where
-  within-limit : {M : ℕ} (v : Value) → ((n : Node) → NodeWithin n → natAbs (valueOf v n) ≤ M) → natAbs (valueIn v h g p) ≤ M
-  unfolding valueIn
-  within-limit v small =
-      let w = corners-within (valueOf v) small (h .corners) (sym (k .asked) ∙ t) in
-      value-within _ (w .southwest) (w .southeast) (w .northwest) (w .northeast) (k .place .north) (k .place .east) (mul-pos (k .place .latitude-spacing .least) (k .place .longitude-spacing .least))
+-- A value between corners is within their limit, at a point that the cell holds.
+between-within : {M : ℕ} (c : Square) {h : HeldCell} {g : Geometry} {p : Point} → CornersWithin M c → Holds h g p
+    → natAbs (valueBetween c h g p) ≤ M
+unfolding valueBetween
+between-within c w k =
+    let at = k .place in
+    value-within c w (at .u-most) (at .v-most) (mul-pos (at .latitude-spacing .least) (at .longitude-spacing .least))
 
-  pub values-within : NodeWithin (valuesIn h g p)
-  unfolding valuesIn correctionsIn heightIn
-  values-within =
-      record {
-        latitude = within-limit value.LatitudeCorrection (λ n w. w .latitude);
-        longitude = within-limit value.LongitudeCorrection (λ n w. w .longitude);
-        height = within-limit value.Height (λ n w. w .height);
-      }
+pub corrections-within : {h : HeldCell} {g : Geometry} {p : Point} → h .passes ≡ true → Holds h g p → CorrectionWithin (correctionsIn h g p)
+corrections-within {h} t k =
+    let w = passing k t in
+    record { latitude = between-within (h .latitude) (w .latitude) k; longitude = between-within (h .longitude) (w .longitude) k }
 
--- The values of a lookup in the bounds are within question 9's limits.
-pub found-within : {size : ℕ} (g : Grid) (p : Point) (n : Node) → Open size (g .geometry) → inside (g .geometry) p ≡ true → lookup g p ≡ values n → NodeWithin n
-found-within g p n o i h =
-    let t = asked (heldAt g p .passes) 9 _ n (sym (lookup-is g p) ∙ h) in
-    let e : valuesIn (heldAt g p) (g .geometry) p ≡ n = cc (t .1) in
-    rw e at (values-within (t .0) (cell-holds g p o i))
+-- A height that is found is within question 9's limit, in a held cell and by the lookup.
+pub height-in-within : (h : HeldCell) (g : Geometry) (p : Point) (z : ℤ) → Holds h g p → heightIn h g p ≡ values z
+    → natAbs z ≤ quasiGeoidLimit
+height-in-within h g p z k e =
+    let t = asked (h .passes) 9 _ z e in
+    let v : valueBetween (h .height) h g p ≡ z = cc (t .1) in
+    rw v at (between-within _ (passing k (t .0) .height) k)
+
+pub height-within : (g : Grid) (p : Point) (z : ℤ) → Bounded (g .corrections) p → g .heights ≡ g .corrections
+    → heightLookup g p ≡ values z → natAbs z ≤ quasiGeoidLimit
+height-within g p z b same h =
+    height-in-within (heldAt g p) (g .corrections) p z (cell-holds g p b) (sym (height-from g p (heldAt g p) refl same) ∙ h)

@@ -1,2 +1,2 @@
--- What the contracts of the lookup cite.
-pub mod Values
+-- What the contracts of the lookups cite.
+pub mod Held

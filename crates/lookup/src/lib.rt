@@ -1,109 +1,125 @@
-// Questions 8 and 9 of a point, and the lookup at it: the cell around the point, read from the image, and the values in that cell.
-use bilinear::locate;
+// The lookups at a point in the bounds: the cell around it, read from an opened image, and the values there.
+use axis::is_reached;
+use axis::locate;
+use axis::offset_on;
 use bilinear::weigh;
-use image::far_bound;
-use nodes::Cell;
-use nodes::Value;
-use nodes::cell_at;
-use nodes::cell_passes;
-use nodes::square_of;
-use rules::Axis;
+use nodes::corners_at;
+use nodes::square_passes;
+use rules::CORRECTION_LIMIT;
 use rules::Correction;
 use rules::Geometry;
-use rules::Lookup;
-use rules::Node;
+use rules::HeightLookup;
+use rules::Layout;
+use rules::Plane;
 use rules::Point;
+use rules::QUASI_GEOID_LIMIT;
 use rules::Refusal;
+use rules::Run;
+use rules::Runs;
+use rules::Square;
 ghost use mathlib.Core.Path.{_≡_};
 ghost use mathlib.Core.Bool.{true};
-ghost use Rattle.rules.specs.Answers.{values};
+ghost use Rattle.rules.specs.Units.{correctionLimit};
 ghost use Rattle.rules.specs.Image.{gridOf};
-ghost use Rattle.rules.specs.Questions.{opening};
-ghost use Rattle.rules.specs.Units.{degrees};
-ghost use Rattle.rules.specs.Limits.{AxisPasses};
-ghost use Rattle.rules.specs.Bilinear.{offset};
-ghost use Rattle.rules.specs.Lookup as lookup;
-ghost use Rattle.lookup.specs.Values.{heldAt, reaches, liesIn, Bounded, offsetsOf, placeIn, Holds, valuesIn, correctionsIn, heightIn};
+ghost use Rattle.rules.specs.Limits.{CornersWithin};
+ghost use Rattle.rules.specs.Bilinear.{bilinear};
+ghost use Rattle.rules.specs.Lookup.{heightLookup, heightLookupOf};
+ghost use Rattle.lookup.specs.Held.{runOf, runsOf, planeOf, layoutFrom, cornersPass, heldAt, liesIn, offsetsOf, placeIn};
+ghost use Rattle.lookup.specs.Held.{square, InCellOf, correctionsIn, heightIn};
+ghost use Rattle.lookup.specs.Held.{Bounded, OpenAround, HeldFor, Holds};
 
-// A cell read from an image: the nodes at its corners, the distance of its south side from the south bound and of its west side from the
-// west bound, and the answer to question 9.
+// A cell read from an image: the distance of its south side from the south bound and of its west side from the west bound, each plane's
+// values at its corners, and the answer to question 9.
 pub struct HeldCell {
-    pub corners: Cell,
     pub south: u64,
     pub west: u64,
+    pub latitude: Square,
+    pub longitude: Square,
+    pub height: Square,
     pub passes: bool,
 }
 
 // How far a point lies from the south and from the west bound.
 pub struct Offsets {
-    pub north: u64,
-    pub east: u64,
+    pub northing: u64,
+    pub easting: u64,
 }
 
-// Where a point lies in a cell: document 01's u and v, how far from its south and from its west side, and P and Q, the latitude and the
-// longitude spacing.
+// Where a point lies in a cell: document 01's u and v, how far from its south and from its west side.
 pub struct PlaceInCell {
     pub u: u64,
     pub v: u64,
-    pub p: u64,
-    pub q: u64,
 }
 
-// Is the point in the bounds, all four included?
-pub fn in_bounds(g: Geometry, p: Point) -> bool
-    requires { ⌜ AxisPasses (degrees 90) (g .latitude) × AxisPasses (degrees 180) (g .longitude) ⌝ }
-    ensures { λ r. ⌜ r ≡ lookup.inside g p ⌝ }
+// The cell of a point in the bounds, with question 9 put to its corners: of planes with one geometry. Only what is read of a layout is
+// passed, because copying a whole layout for each call takes longer.
+pub fn cell_around(image: &[u8], g: Geometry, r: Runs, p: Point) -> HeldCell
+    requires { ⌜ OpenAround (now image) (layoutFrom g r) p ⌝ }
+    ensures { λ h. ⌜ h ≡ heldAt (gridOf (now (image .entry)) (layoutFrom g r)) p ⌝ }
 {
-    let latitude = g.latitude;
-    let longitude = g.longitude;
-    if on_axis(latitude, p.latitude) {
-        on_axis(longitude, p.longitude)
-    } else {
-        false
-    }
-}
-
-// Is an angle from an axis's start to its far bound, both included?
-fn on_axis(a: Axis, z: i64) -> bool
-    requires { ⌜ AxisPasses (degrees 180) a ⌝ }
-    ensures { λ r. ⌜ r ≡ lookup.onAxis a z ⌝ }
-{
-    if a.start <= z {
-        z <= far_bound(a)
-    } else {
-        false
-    }
-}
-
-// The lookup at a point in the bounds: question 9 for its cell, then the three values.
-pub fn look_up(image: &[u8], g: Geometry, p: Point) -> Lookup
-    requires { ⌜ (opening (now image) ≡ values g) × (lookup.inside g p ≡ true) ⌝ }
-    ensures { λ r. ⌜ lookup.lookupOf r ≡ lookup.lookup (gridOf (now (image .entry)) g) p ⌝ }
-{
-    let h = cell_around(image, g, p);
-    if !h.passes {
-        return Lookup::Refused(Refusal::NodeLimits);
-    }
-    Lookup::Found(values_in(h, g, p))
-}
-
-// The cell of a point in the bounds, with question 9 put to its corners.
-pub fn cell_around(image: &[u8], g: Geometry, p: Point) -> HeldCell
-    requires { ⌜ (opening (now image) ≡ values g) × (lookup.inside g p ≡ true) ⌝ }
-    ensures { λ r. ⌜ r ≡ heldAt (gridOf (now (image .entry)) g) p ⌝ }
-{
-    let latitude = g.latitude;
-    let longitude = g.longitude;
     let from = offsets_of(g, p);
-    let row = locate(latitude, from.north);
-    let column = locate(longitude, from.east);
-    let corners = cell_at(image, g, row.cell, column.cell);
-    let passes = cell_passes(corners);
+    let row = locate(g.latitude, from.northing);
+    let column = locate(g.longitude, from.easting);
+    let latitude = corners_at(image, plane_of(g, r.latitude), row.cell, column.cell);
+    let longitude = corners_at(image, plane_of(g, r.longitude), row.cell, column.cell);
+    let height = corners_at(image, plane_of(g, r.height), row.cell, column.cell);
+    let passes = corners_pass(latitude, longitude, height);
     HeldCell {
-        corners,
-        south: from.north - row.part,
-        west: from.east - column.part,
+        south: from.northing - row.part,
+        west: from.easting - column.part,
+        latitude,
+        longitude,
+        height,
         passes,
+    }
+}
+
+// What `cell_around` takes of a layout: where each plane's values begin, and how far apart they lie.
+pub fn runs_of(l: Layout) -> Runs
+    ensures { λ r. ⌜ r ≡ runsOf l ⌝ }
+{
+    let latitude = run_of(l.latitude);
+    let longitude = run_of(l.longitude);
+    let height = run_of(l.height);
+    Runs {
+        latitude,
+        longitude,
+        height,
+    }
+}
+
+// A plane's first byte and stride, and the plane that they are with a geometry.
+fn run_of(p: Plane) -> Run
+    ensures { λ r. ⌜ r ≡ runOf p ⌝ }
+{
+    Run {
+        first: p.first,
+        stride: p.stride,
+    }
+}
+
+fn plane_of(geometry: Geometry, r: Run) -> Plane
+    ensures { λ p. ⌜ p ≡ planeOf geometry r ⌝ }
+{
+    Plane {
+        geometry,
+        first: r.first,
+        stride: r.stride,
+    }
+}
+
+// Question 9 of the three values at a cell's corners.
+fn corners_pass(latitude: Square, longitude: Square, height: Square) -> bool
+    ensures { λ r. ⌜ r ≡ cornersPass latitude longitude height ⌝ }
+{
+    if square_passes(latitude, CORRECTION_LIMIT) {
+        if square_passes(longitude, CORRECTION_LIMIT) {
+            square_passes(height, QUASI_GEOID_LIMIT)
+        } else {
+            false
+        }
+    } else {
+        false
     }
 }
 
@@ -113,18 +129,11 @@ pub fn lies_in(h: HeldCell, g: Geometry, p: Point) -> bool
     ensures { λ r. ⌜ r ≡ liesIn h g p ⌝ }
 {
     let from = offsets_of(g, p);
-    if is_reached(h.south, g.latitude.spacing, from.north) {
-        is_reached(h.west, g.longitude.spacing, from.east)
+    if is_reached(h.south, g.latitude.spacing, from.northing) {
+        is_reached(h.west, g.longitude.spacing, from.easting)
     } else {
         false
     }
-}
-
-// Is an offset at or past a side, and less than one spacing from it?
-fn is_reached(side: u64, spacing: u64, x: u64) -> bool
-    ensures { λ r. ⌜ r ≡ reaches side spacing x ⌝ }
-{
-    if side <= x { x - side < spacing } else { false }
 }
 
 // How far a point in the bounds lies from the south and the west bound.
@@ -134,66 +143,25 @@ fn offsets_of(g: Geometry, p: Point) -> Offsets
 {
     let latitude = g.latitude;
     let longitude = g.longitude;
-    let north = offset_on(latitude, p.latitude);
-    let east = offset_on(longitude, p.longitude);
-    Offsets { north, east }
+    let northing = offset_on(latitude, p.latitude);
+    let easting = offset_on(longitude, p.longitude);
+    Offsets { northing, easting }
 }
 
-// The distance of an angle on an axis from the axis's start.
-fn offset_on(a: Axis, z: i64) -> u64
-    requires { ⌜ AxisPasses (degrees 180) a × (lookup.onAxis a z ≡ true) ⌝ }
-    ensures { λ r. ⌜ r ≡ offset a z ⌝ }
-{
-    (z - a.start) as u64
-}
-
-// The three values at a point in a held cell that passes question 9.
-fn values_in(h: HeldCell, g: Geometry, p: Point) -> Node
-    requires { ⌜ (h .passes ≡ true) × Holds h g p ⌝ }
-    ensures { λ r. ⌜ r ≡ valuesIn h g p ⌝ }
-{
-    let shift = corrections_in(h, g, p);
-    let height = height_in(h, g, p);
-    Node {
-        latitude: shift.latitude,
-        longitude: shift.longitude,
-        height,
-    }
-}
-
-// The two corrections there.
+// The two corrections at a point in a held cell that passes question 9.
 pub fn corrections_in(h: HeldCell, g: Geometry, p: Point) -> Correction
     requires { ⌜ (h .passes ≡ true) × Holds h g p ⌝ }
     ensures { λ r. ⌜ r ≡ correctionsIn h g p ⌝ }
 {
     let at = place_in(h, g, p);
-    let latitude = weigh(
-        square_of(h.corners, Value::LatitudeCorrection),
-        at.u,
-        at.v,
-        at.p,
-        at.q,
-    );
-    let longitude = weigh(
-        square_of(h.corners, Value::LongitudeCorrection),
-        at.u,
-        at.v,
-        at.p,
-        at.q,
-    );
+    let a = h.latitude;
+    let b = h.longitude;
+    let latitude = value_between(a.southwest, a.southeast, a.northwest, a.northeast, g, at);
+    let longitude = value_between(b.southwest, b.southeast, b.northwest, b.northeast, g, at);
     Correction {
         latitude,
         longitude,
     }
-}
-
-// The quasi-geoid height there.
-pub fn height_in(h: HeldCell, g: Geometry, p: Point) -> i64
-    requires { ⌜ (h .passes ≡ true) × Holds h g p ⌝ }
-    ensures { λ r. ⌜ r ≡ heightIn h g p ⌝ }
-{
-    let at = place_in(h, g, p);
-    weigh(square_of(h.corners, Value::Height), at.u, at.v, at.p, at.q)
 }
 
 // The place of a point in a held cell.
@@ -203,9 +171,56 @@ fn place_in(h: HeldCell, g: Geometry, p: Point) -> PlaceInCell
 {
     let from = offsets_of(g, p);
     PlaceInCell {
-        u: from.north - h.south,
-        v: from.east - h.west,
-        p: g.latitude.spacing,
-        q: g.longitude.spacing,
+        u: from.northing - h.south,
+        v: from.easting - h.west,
     }
+}
+
+// The value at a place in a cell, from those at its corners, which form a two by two square, south row first. As numbers they are passed
+// without a copy in memory.
+fn value_between(sw: i64, se: i64, nw: i64, ne: i64, g: Geometry, at: PlaceInCell) -> i64
+    requires { ⌜ CornersWithin correctionLimit (square sw se nw ne) × InCellOf g at ⌝ }
+    ensures { λ r. ⌜ r ≡ bilinear (square sw se nw ne) (at .u) (at .v) (g .latitude .spacing) (g .longitude .spacing) ⌝ }
+{
+    weigh(
+        [[sw, se], [nw, ne]],
+        at.u,
+        at.v,
+        g.latitude.spacing,
+        g.longitude.spacing,
+    )
+}
+
+// The lookup of the quasi-geoid height at a point in the bounds: in the held cell where the point lies in it, else in the point's own.
+pub fn height_at(image: &[u8], l: Layout, h: HeldCell, q: Point) -> HeightLookup
+    requires { ⌜ OpenAround (now image) l q × HeldFor h (now image) l q ⌝ }
+    ensures { λ r. ⌜ heightLookupOf r ≡ heightLookup (gridOf (now (image .entry)) l) q ⌝ }
+{
+    let g = l.latitude.geometry;
+    if lies_in(h, g, q) {
+        return height_in(h, g, q);
+    }
+    look_up_height(image, l, q)
+}
+
+// The same in the cell around the point.
+pub fn look_up_height(image: &[u8], l: Layout, q: Point) -> HeightLookup
+    requires { ⌜ OpenAround (now image) l q ⌝ }
+    ensures { λ r. ⌜ heightLookupOf r ≡ heightLookup (gridOf (now (image .entry)) l) q ⌝ }
+{
+    let g = l.latitude.geometry;
+    height_in(cell_around(image, g, runs_of(l), q), g, q)
+}
+
+// The quasi-geoid height at a point in a held cell: question 9 as the cell answers it, then the value between its heights.
+pub fn height_in(h: HeldCell, g: Geometry, q: Point) -> HeightLookup
+    requires { ⌜ Holds h g q ⌝ }
+    ensures { λ r. ⌜ heightLookupOf r ≡ heightIn h g q ⌝ }
+{
+    if !h.passes {
+        return HeightLookup::Refused(Refusal::NodeLimits);
+    }
+    let at = place_in(h, g, q);
+    let c = h.height;
+    HeightLookup::Height(value_between(c.southwest, c.southeast, c.northwest, c.northeast, g, at))
 }

@@ -3,7 +3,7 @@ use fixes::list_back;
 use fixes::list_out;
 use notation::read_notation;
 use notation::write_notation;
-use numbers::refusal_number;
+use refusals::refusal_number;
 use rules::Checked;
 use rules::Notation;
 use rules::Reading;
@@ -11,10 +11,9 @@ use rules::Writing;
 use slopes::grid_check;
 ghost use mathlib.Core.Path.{_≡_};
 ghost use Rattle.rules.specs.Answers.{statusOf, after};
-ghost use Rattle.rules.specs.Check.{gridCheck};
-ghost use Rattle.rules.specs.Lists.{listOut, listBack};
-ghost use Rattle.rules.specs.Notation.{readNotation, writeNotation};
-ghost use Rattle.marker.specs.Calls.{findingsAfter, notationAfter};
+ghost use Rattle.rules.specs.Check.{gridCheck, findingsAfter};
+ghost use Rattle.rules.specs.Lists.{listOut, listBack, afterOut, afterBack};
+ghost use Rattle.rules.specs.Notation.{readParts, writeNotation, notationAfter};
 
 // The grid check: 0 with the six findings written, or the number.
 #[no_mangle]
@@ -28,12 +27,12 @@ pub extern "C" fn marker_grid_check(image: &[u8], findings: &mut [i64; 6]) -> i6
             let longitude = f.longitude;
             let height = f.height;
             *findings = [
-                latitude.north as i64,
-                latitude.east as i64,
-                longitude.north as i64,
-                longitude.east as i64,
-                height.north as i64,
-                height.east as i64,
+                latitude.northward as i64,
+                latitude.eastward as i64,
+                longitude.northward as i64,
+                longitude.eastward as i64,
+                height.northward as i64,
+                height.eastward as i64,
             ];
             0
         }
@@ -45,7 +44,7 @@ pub extern "C" fn marker_grid_check(image: &[u8], findings: &mut [i64; 6]) -> i6
 #[no_mangle]
 pub extern "C" fn marker_list_out(image: &[u8], fixes: &[i64], answers: &mut [i64]) -> i64
     ensures number { λ r. ⌜ r ≡ statusOf (listOut (now (image .entry)) (now (fixes .entry)) (now (answers .entry))) ⌝ }
-    ensures answers { λ _. ⌜ now (answers .exit) ≡ after (listOut (now (image .entry)) (now (fixes .entry)) (now (answers .entry))) (now (answers .entry)) ⌝ }
+    ensures answers { λ _. ⌜ now (answers .exit) ≡ afterOut (now (image .entry)) (now (fixes .entry)) (now (answers .entry)) ⌝ }
 {
     list_out(image, fixes, answers)
 }
@@ -54,7 +53,7 @@ pub extern "C" fn marker_list_out(image: &[u8], fixes: &[i64], answers: &mut [i6
 #[no_mangle]
 pub extern "C" fn marker_list_back(image: &[u8], fixes: &[i64], answers: &mut [i64]) -> i64
     ensures number { λ r. ⌜ r ≡ statusOf (listBack (now (image .entry)) (now (fixes .entry)) (now (answers .entry))) ⌝ }
-    ensures answers { λ _. ⌜ now (answers .exit) ≡ after (listBack (now (image .entry)) (now (fixes .entry)) (now (answers .entry))) (now (answers .entry)) ⌝ }
+    ensures answers { λ _. ⌜ now (answers .exit) ≡ afterBack (now (image .entry)) (now (fixes .entry)) (now (answers .entry)) ⌝ }
 {
     list_back(image, fixes, answers)
 }
@@ -69,8 +68,8 @@ pub extern "C" fn marker_read_notation(
     letter: u8,
     nd: &mut i64,
 ) -> i64
-    ensures number { λ r. ⌜ r ≡ statusOf (readNotation longitude (record { degrees = degrees; minutes = minutes; fraction = «hundred_thousandths»; letter = letter })) ⌝ }
-    ensures angle { λ _. ⌜ now (nd .exit) ≡ after (readNotation longitude (record { degrees = degrees; minutes = minutes; fraction = «hundred_thousandths»; letter = letter })) (now (nd .entry)) ⌝ }
+    ensures number { λ r. ⌜ r ≡ statusOf (readParts longitude degrees minutes «hundred_thousandths» letter) ⌝ }
+    ensures angle { λ _. ⌜ now (nd .exit) ≡ after (readParts longitude degrees minutes «hundred_thousandths» letter) (now (nd .entry)) ⌝ }
 {
     let n = Notation {
         degrees,

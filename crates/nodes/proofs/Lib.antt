@@ -1,2 +1,2 @@
--- Laws of the nodes' places in an image.
+-- Laws of the values' places in an image.
 pub mod Parts

@@ -1,2 +1,2 @@
--- What the contracts of the nodes and cells cite.
-pub mod Cell
+-- What the contracts of the values' readers cite.
+pub mod Row

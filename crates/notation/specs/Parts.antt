@@ -9,7 +9,8 @@ use borrow.Author.Tests.{ltb-true, leb-true, lt-ltb, eqb-true, ne-eqb}
 use Rattle.integers.specs.Booleans.{and-left, and-right}
 use Rattle.rules.specs.declared.Notation.{Notation}
 use Rattle.rules.specs.Answers.{Outcome, values, number, ask}
-use Rattle.rules.specs.Notation.{perDegree, perMinute, total, axisLimit, positiveLetter, negativeLetter, readable, magnitudeRead, readNotation}
+use Rattle.rules.specs.Notation.{perDegree, perMinute, total, axisLimit, positiveLetter, negativeLetter}
+use Rattle.rules.specs.Notation.{readable, magnitudeRead, readNotation}
 use Rattle.notation.specs.declared.Side.{Side}
 use Rattle.notation.specs.declared.Side.the-variants.{Positive, Negative, Neither}
 
@@ -19,7 +20,9 @@ amountsFit longitude n = ltb (n .minutes) 60 && (ltb (n .fraction) perMinute && 
 
 -- The side that a letter means on an axis: neither, where it is no letter of the axis.
 abbrev pub sideOf : Bool → ℕ → Side
-sideOf longitude letter = cond (eqb letter (positiveLetter longitude)) Positive (cond (eqb letter (negativeLetter longitude)) Negative Neither)
+sideOf longitude letter =
+    cond (eqb letter (positiveLetter longitude)) Positive
+    (cond (eqb letter (negativeLetter longitude)) Negative Neither)
 
 -- The angle of a size on a side of zero, or 13.
 abbrev pub angleOn : Side → ℕ → Outcome ℤ
@@ -28,8 +31,10 @@ angleOn Negative size = values (negℤ (pos size))
 angleOn Neither size = number 13
 
 -- The rule of reading in two of these parts: the amounts, and the letter.
-in-parts : (a b u l d : Bool) (size : ℕ) → (u ≡ true → l ≡ false)
-    → ask (a && (b && ((u || l) && d))) 13 (values (cond l (negℤ (pos size)) (pos size))) ≡ ask (a && (b && d)) 13 (angleOn (cond u Positive (cond l Negative Neither)) size)
+in-parts : (a b u l d : Bool) (size : ℕ) → (u ≡ true → l ≡ false) →
+    let side = cond u Positive (cond l Negative Neither) in
+    let angle = values (cond l (negℤ (pos size)) (pos size)) in
+    ask (a && (b && ((u || l) && d))) 13 angle ≡ ask (a && (b && d)) 13 (angleOn side size)
 in-parts false b u l d size h = refl
 in-parts true false u l d size h = refl
 in-parts true true true l d size h = rw (h refl)
@@ -41,7 +46,9 @@ one-letter : (longitude : Bool) (letter : ℕ) → eqb letter (positiveLetter lo
 one-letter true letter h = let e = eqb-true letter 69 h in ne-eqb letter 87 (λ k. omega arith)
 one-letter false letter h = let e = eqb-true letter 78 h in ne-eqb letter 83 (λ k. omega arith)
 
-pub read-in-parts : (longitude : Bool) (n : Notation) → readNotation longitude n ≡ ask (amountsFit longitude n) 13 (angleOn (sideOf longitude (n .letter)) (magnitudeRead (total n)))
+pub read-in-parts : (longitude : Bool) (n : Notation) →
+    let angle = angleOn (sideOf longitude (n .letter)) (magnitudeRead (total n)) in
+    readNotation longitude n ≡ ask (amountsFit longitude n) 13 angle
 unfolding readNotation readable amountsFit
 read-in-parts longitude n = in-parts (ltb (n .minutes) 60) (ltb (n .fraction) perMinute) _ _ _ _ (one-letter longitude (n .letter))
 
@@ -71,7 +78,8 @@ amounts-not longitude n never = by (amountsFit longitude n) refl
     by false e = refl
 
 -- With minutes and hundred-thousandths below theirs, the total decides.
-pub by-total : (longitude : Bool) (n : Notation) → n .minutes < 60 → n .fraction < perMinute → amountsFit longitude n ≡ leb (total n) (axisLimit longitude * perDegree)
+pub by-total : (longitude : Bool) (n : Notation) → n .minutes < 60 → n .fraction < perMinute
+    → amountsFit longitude n ≡ leb (total n) (axisLimit longitude * perDegree)
 unfolding amountsFit
 by-total longitude n h k = rw (lt-ltb _ _ h, lt-ltb _ _ k)
 

@@ -1,4 +1,4 @@
--- Totals in hundred-thousandths of a second and sizes in nd: writing takes back what reading did, and the split what the total joined.
+-- Totals in hundred-thousandths of a second and sizes in nd: writing is a left inverse of reading, and the split one of the total.
 use mathlib.Core.Path.{_≡_, refl}
 use Prim.Native.Nat.{ℕ, _+_, _*_, _/_, _≤_, _<_}
 use native.Mathlib.Omega.{arith}
@@ -30,7 +30,8 @@ abbrev pub lettered : Notation → ℕ → Notation
 lettered n letter = record { degrees = n .degrees; minutes = n .minutes; fraction = n .fraction; letter = letter }
 
 -- Two notations are the same by their parts.
-pub same-parts : (n k : Notation) → n .degrees ≡ k .degrees → n .minutes ≡ k .minutes → n .fraction ≡ k .fraction → n .letter ≡ k .letter → n ≡ k
+pub same-parts : (n k : Notation) → n .degrees ≡ k .degrees → n .minutes ≡ k .minutes → n .fraction ≡ k .fraction
+    → n .letter ≡ k .letter → n ≡ k
 same-parts n k d m f l = λ i. record { degrees = d i; minutes = m i; fraction = f i; letter = l i }
 
 pub split-total : (n : Notation) (letter : ℕ) → n .minutes < 60 → n .fraction < perMinute → split (total n) letter ≡ lettered n letter

@@ -10,7 +10,8 @@ ghost use mathlib.Core.Path.{_≡_};
 ghost use Prim.Native.Nat.{_*_, _^_, _≤_, _<_};
 ghost use lib.IntN.{pos};
 ghost use Rattle.rules.specs.Units.{degrees};
-ghost use Rattle.rules.specs.Notation.{perDegree, total, axisLimit, positiveLetter, negativeLetter, magnitudeRead, readNotation, totalWritten, split, writeNotation, readingOf, writingOf};
+ghost use Rattle.rules.specs.Notation.{perDegree, total, axisLimit, positiveLetter, negativeLetter, magnitudeRead, totalWritten, split};
+ghost use Rattle.rules.specs.Notation.{readNotation, writeNotation, readingOf, writingOf};
 ghost use Rattle.notation.specs.Parts.{sideOf, amountsFit};
 
 // A degree in nd, and a degree and a minute in hundred-thousandths of a second.
@@ -20,7 +21,7 @@ const PER_DEGREE: u64 = 360000000;
 
 const PER_MINUTE: u64 = 6000000;
 
-// The side of zero that a letter puts an angle on: N and E the positive one, S and W the negative one.
+// The side of zero that a letter means: N and E the positive one, S and W the negative one.
 enum Side {
     Positive,
     Negative,

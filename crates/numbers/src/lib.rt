@@ -1,12 +1,11 @@
-// Numbers as the machine holds them: the size of a signed number, limits, the smaller and the larger of two, the little-endian numbers of an
-// image, and the numbers of refusals.
-use rules::Refusal;
+// Numbers as the machine holds them: the size of a signed number, limits, the smaller and the larger of two, and the little-endian numbers
+// of an image.
+ghost use mathlib.Core.Bool.{_&&_};
 ghost use mathlib.Core.Path.{_≡_};
 ghost use Prim.Native.Nat.{_+_, _≤_, _<_, min, max};
 ghost use lib.IntN.{pos, natAbs, _-ℤ_};
 ghost use lib.ListN.{length};
 ghost use Rattle.rules.specs.Units.{between, within};
-ghost use Rattle.rules.specs.Answers.{numberOf};
 ghost use Rattle.rules.specs.Image.{twosComplement, u32At, i32At, i64At};
 
 // The distance from zero.
@@ -25,6 +24,21 @@ pub fn is_within(z: i64, limit: u64) -> bool
     }
     if 0 - limit as i64 <= z {
         z <= limit as i64
+    } else {
+        false
+    }
+}
+
+// Three numbers, each within its own limit: a within l, b within m, c within n?
+pub fn three_within(a: i64, l: u64, b: i64, m: u64, c: i64, n: u64) -> bool
+    ensures { λ r. ⌜ r ≡ (within l a && (within m b && within n c)) ⌝ }
+{
+    if is_within(a, l) {
+        if is_within(b, m) {
+            is_within(c, n)
+        } else {
+            false
+        }
     } else {
         false
     }
@@ -51,7 +65,7 @@ pub fn larger(a: u64, b: u64) -> u64
     if a < b { b } else { a }
 }
 
-// A byte, widened.
+// A byte, as a number of 64 bits.
 fn wide(x: u8) -> u64
     ensures { λ r. ⌜ (r ≡ x) × (r < 256) ⌝ }
 {
@@ -66,16 +80,17 @@ pub fn u32_at(s: &[u8], at: usize) -> u64
     wide(s[at]) + 256 * wide(s[at + 1]) + 65536 * wide(s[at + 2]) + 16777216 * wide(s[at + 3])
 }
 
-// 32 bits in two's complement: raised by half the range, kept in the range, and lowered again. Without a test it is quicker.
+// 32 bits in two's complement: half the range is added, the sum reduced modulo the range, and half the range subtracted. Without a test it
+// is quicker.
 fn signed32(n: u64) -> i64
     requires { ⌜ n < 4294967296 ⌝ }
     ensures { λ r. ⌜ r ≡ twosComplement 2147483648 n ⌝ }
 {
-    lowered((n + 2147483648) % 4294967296)
+    less_half_range((n + 2147483648) % 4294967296)
 }
 
 // n less half the range.
-fn lowered(n: u64) -> i64
+fn less_half_range(n: u64) -> i64
     requires { ⌜ n < 4294967296 ⌝ }
     ensures { λ r. ⌜ r ≡ pos n -ℤ pos 2147483648 ⌝ }
 {
@@ -107,26 +122,4 @@ pub fn i64_at(s: &[u8], at: usize) -> i64
     ensures { λ r. ⌜ r ≡ i64At (now (s .entry)) at ⌝ }
 {
     signed64(u32_at(s, at) + 4294967296 * u32_at(s, at + 4))
-}
-
-// A refusal's number.
-pub fn refusal_number(r: Refusal) -> i64
-    ensures { λ n. ⌜ n ≡ pos (numberOf r) ⌝ }
-{
-    match r {
-        Refusal::ImageLength => 1,
-        Refusal::Edition => 2,
-        Refusal::NodeCount => 3,
-        Refusal::Spacing => 4,
-        Refusal::GridBounds => 5,
-        Refusal::NodeBytes => 6,
-        Refusal::FixLimits => 7,
-        Refusal::OutsideBounds => 8,
-        Refusal::NodeLimits => 9,
-        Refusal::IterateOutside => 10,
-        Refusal::NotSettled => 11,
-        Refusal::Slope => 12,
-        Refusal::BadNotation => 13,
-        Refusal::ListLengths => 14,
-    }
 }

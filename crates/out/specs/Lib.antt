@@ -1,2 +1,2 @@
 -- What the contracts of the way out cite.
-pub mod Turn
+pub mod Answer

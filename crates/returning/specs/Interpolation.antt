@@ -12,21 +12,27 @@ use Rattle.integers.specs.Rounding.{roundHalfUp, round-close}
 use Rattle.rules.specs.declared.Geometry.{Geometry}
 use Rattle.rules.specs.declared.Point.{Point}
 use Rattle.rules.specs.Image.{rows, columns}
-use Rattle.rules.specs.Limits.{Open}
+use Rattle.rules.specs.Limits.{GeometryPasses}
 use Rattle.rules.specs.Bilinear.{weighted, bilinear, valueAt}
 use Rattle.rules.specs.Lookup.{inside}
-use Rattle.rules.proofs.Cells.{offset-most, at-corners, part-most, on-latitude, on-longitude}
+use Rattle.rules.proofs.Cells.{offset-most, part-most, on-latitude, on-longitude}
+use Rattle.rules.proofs.Corners.{cell-within}
+use Rattle.rules.proofs.Slopes.{NodesWithin}
 use Rattle.rules.proofs.Weights.{value-within}
 use Rattle.returning.specs.Line.{weightedPair, pair-parts, line, line-near, line-change}
 use Rattle.returning.specs.Points.{Close}
 
 -- ---- the sum of corner times weight is a weighted pair of two of them
-times-pair : (a b : ℤ) (s t v : ℕ) → up (weightedPair a b t v) * s + down a * (s * t) + down b * (s * v) ≡ down (weightedPair a b t v) * s + up a * (s * t) + up b * (s * v)
+times-pair : (a b : ℤ) (s t v : ℕ) → let w = weightedPair a b t v in
+    up w * s + down a * (s * t) + down b * (s * v) ≡ down w * s + up a * (s * t) + up b * (s * v)
 times-pair a b s t v =
-    let e : (up (weightedPair a b t v) + down a * t + down b * v) * s ≡ (down (weightedPair a b t v) + up a * t + up b * v) * s = ap (λ (n : ℕ). n * s) (pair-parts a b t v) in
+    let w = weightedPair a b t v in
+    let e : (up w + down a * t + down b * v) * s ≡ (down w + up a * t + up b * v) * s = ap (λ (n : ℕ). n * s) (pair-parts a b t v) in
     omega arith
 
-nested : (a b c d : ℤ) (s u t v : ℕ) → a *ℤ pos (s * t) +ℤ b *ℤ pos (s * v) +ℤ c *ℤ pos (u * t) +ℤ d *ℤ pos (u * v) ≡ weightedPair (weightedPair a b t v) (weightedPair c d t v) s u
+nested : (a b c d : ℤ) (s u t v : ℕ)
+    → a *ℤ pos (s * t) +ℤ b *ℤ pos (s * v) +ℤ c *ℤ pos (u * t) +ℤ d *ℤ pos (u * v)
+    ≡ weightedPair (weightedPair a b t v) (weightedPair c d t v) s u
 nested a b c d s u t v =
     omega (
       arith,
@@ -48,37 +54,41 @@ pub value-is : (g : Geometry) (f : ℕ → ℕ → ℤ) (p : Point) → valueAt 
 unfolding valueAt bilinear weighted surface line
 value-is g f p = ap (λ (z : ℤ). roundHalfUp z (area g)) (nested _ _ _ _ _ _ _ _)
 
--- One in a hundred, rounded up.
+-- One in a hundred, rounded up: the change that question 12 allows between points at most D apart. With it the proof of the iteration is a
+-- contraction with a Lipschitz constant of 1/100 (Iteration.antt).
 abbrev pub hundredth : ℕ → ℕ
 hundredth D = (D + 99) / 100
 
-module _ {length : ℕ} (g : Geometry) (o : Open length g) (f : ℕ → ℕ → ℤ) where
+module _ {g : Geometry} (o : GeometryPasses g) (f : ℕ → ℕ → ℤ) where
   spaced : 1 ≤ area g
   spaced = mul-le-mul (o .latitude .sized .spacing-least) (o .longitude .sized .spacing-least)
 
   -- A value is within the nodes' limit.
-  pub value-limit : (M : ℕ) → ((row column : ℕ) → row < rows g → column < columns g → natAbs (f row column) ≤ M)
-      → (p : Point) → inside g p ≡ true → natAbs (valueAt g f p) ≤ M
+  pub value-limit : (M : ℕ) → NodesWithin M g f → (p : Point) → inside g p ≡ true → natAbs (valueAt g f p) ≤ M
   unfolding valueAt
   value-limit M limit p i =
-      let n = at-corners (λ row column. natAbs (f row column) ≤ M) o limit p in
-      let north = part-most (g .latitude) _ (o .latitude .sized) (offset-most (g .latitude) (p .latitude) (on-latitude g p i)) in
-      let east = part-most (g .longitude) _ (o .longitude .sized) (offset-most (g .longitude) (p .longitude) (on-longitude g p i)) in
-      value-within _ (n .0) (n .1) (n .2) (n .3) north east spaced
+      let u = part-most (g .latitude) _ (o .latitude .sized) (offset-most (g .latitude) (p .latitude) (on-latitude g p i)) in
+      let v = part-most (g .longitude) _ (o .longitude .sized) (offset-most (g .longitude) (p .longitude) (on-longitude g p i)) in
+      value-within _ (cell-within f o limit p) u v spaced
 
+  -- Neighbours are at most A apart in latitude, at most B in longitude.
   module _ (A B : ℕ)
-      (north : (row column : ℕ) → row + 1 < rows g → column < columns g → Near A (f row column) (f (row + 1) column))
-      (east : (row column : ℕ) → row < rows g → column + 1 < columns g → Near B (f row column) (f row (column + 1)))
+      (northward : (row column : ℕ) → row + 1 < rows g → column < columns g → Near A (f row column) (f (row + 1) column))
+      (eastward : (row column : ℕ) → row < rows g → column + 1 < columns g → Near B (f row column) (f row (column + 1)))
     where
       -- First along the latitude, then along the longitude.
       surface-change : (D : ℕ) (q r : Point) → inside g q ≡ true → inside g r ≡ true → Close D q r
           → Near (D * (g .longitude .spacing * A) + g .latitude .spacing * (D * B)) (surface g f q) (surface g f r)
       unfolding surface
       surface-change D q r i j h =
+          let a = o .latitude .sized in
+          let b = o .longitude .sized in
           near-trans
-          (line-change (o .latitude .sized) _ _ (λ row l. line-near (o .longitude .sized) (f row) (f (row + 1)) A (λ column m. north row column l m) (q .longitude) (on-longitude g q i))
+          (line-change a _ _ (λ row l.
+          line-near b (f row) (f (row + 1)) A (λ column m. northward row column l m) (q .longitude) (on-longitude g q i))
           D (q .latitude) (r .latitude) (on-latitude g q i) (on-latitude g r j) (h .latitude))
-          (line-near (o .latitude .sized) _ _ _ (λ row l. line-change (o .longitude .sized) (f row) B (λ column m. east row column l m) D (q .longitude) (r .longitude) (on-longitude g q i) (on-longitude g r j) (h .longitude))
+          (line-near a _ _ _ (λ row l. line-change b (f row) B (λ column m. eastward row column l m) D
+          (q .longitude) (r .longitude) (on-longitude g q i) (on-longitude g r j) (h .longitude))
           (r .latitude) (on-latitude g r j))
 
       -- Under question 12, a value changes by at most one in a hundred, rounded up.
@@ -87,6 +97,7 @@ module _ {length : ℕ} (g : Geometry) (o : Open length g) (f : ℕ → ℕ → 
       value-change slope q r D i j h =
           let n = hundredth D in
           let m : D ≤ n * 100 = omega arith in
+          let steep = A * g .longitude .spacing + B * g .latitude .spacing in
           rw (value-is g f q, value-is g f r)
           (round-close (surface g f q) (surface g f r) (area g) n spaced
-          (near-mono (omega (arith, mul-le-mul-right (A * g .longitude .spacing + B * g .latitude .spacing) m, mul-le-mul-left n slope)) (surface-change D q r i j h)))
+          (near-mono (omega (arith, mul-le-mul-right steep m, mul-le-mul-left n slope)) (surface-change D q r i j h)))

@@ -1,5 +1,5 @@
--- Interpolation along one axis: the spacing times the value at an angle is the weighted sum of the values of its cell's two nodes. From cell
--- to cell, through the nodes that they share, the largest step between neighbours bounds the change along the whole axis.
+-- Interpolation along one axis: the spacing times the value at an angle is the weighted sum of the values of its cell's two nodes. From
+-- cell to cell, through the nodes that they share, the largest step between neighbours bounds the change along the whole axis.
 use mathlib.Core.Bool.{true}
 use mathlib.Core.Path.{_≡_, ap}
 use Prim.Native.Nat.{ℕ, zero, suc, _+_, _*_, _-_, _≤_, _<_}
@@ -20,16 +20,22 @@ unfoldable pub weightedPair : ℤ → ℤ → (s u : ℕ) → ℤ
 weightedPair a b s u = a *ℤ pos s +ℤ b *ℤ pos u
 
 -- Its parts, as `omega` reads them.
-pub pair-parts : (a b : ℤ) (s u : ℕ) → up (weightedPair a b s u) + down a * s + down b * u ≡ down (weightedPair a b s u) + up a * s + up b * u
+pub pair-parts : (a b : ℤ) (s u : ℕ)
+    → up (weightedPair a b s u) + down a * s + down b * u ≡ down (weightedPair a b s u) + up a * s + up b * u
 unfolding weightedPair
 pair-parts a b s u = omega (arith, var a ⊗ lit s ⊕ var b ⊗ lit u)
 
 -- A distance, times a factor.
-scaled : {k : ℕ} {x y : ℤ} (s : ℕ) → Near k x y → (up x * s + down y * s ≤ up y * s + down x * s + k * s) × (up y * s + down x * s ≤ up x * s + down y * s + k * s)
-scaled s h = (omega (arith, mul-le-mul-right s (h .above)), omega (arith, mul-le-mul-right s (h .below)))
+record Scaled (k s : ℕ) (x y : ℤ) : Type 0 where
+  above : up x * s + down y * s ≤ up y * s + down x * s + k * s
+  below : up y * s + down x * s ≤ up x * s + down y * s + k * s
+
+scaled : {k : ℕ} {x y : ℤ} (s : ℕ) → Near k x y → Scaled k s x y
+scaled s h = omega (arith, mul-le-mul-right s (h .above), mul-le-mul-right s (h .below))
 
 -- Values at most E apart, under weights of P together.
-pair-near : {E : ℕ} {a b a′ b′ : ℤ} (s u P : ℕ) → s + u ≡ P → Near E a a′ → Near E b b′ → Near (P * E) (weightedPair a b s u) (weightedPair a′ b′ s u)
+pair-near : {E : ℕ} {a b a′ b′ : ℤ} (s u P : ℕ) → s + u ≡ P → Near E a a′ → Near E b b′
+    → Near (P * E) (weightedPair a b s u) (weightedPair a′ b′ s u)
 pair-near {a} {b} {a′} {b′} s u P e h k = rw (← e) (omega (arith, pair-parts a b s u, pair-parts a′ b′ s u, scaled s h, scaled u k))
 
 -- Weight w moved from one value to the other.
@@ -48,7 +54,8 @@ module _ (h : ℕ → ℤ) (count P A : ℕ) (step : (i : ℕ) → i + 1 < count
       let e′ : d ≡ c = omega arith in
       let s′ : s ≡ t + (v - u) = omega arith in
       let v′ : u + (v - u) ≡ v = omega arith in
-      rw (e′, s′) (near-mono (mul-le-mul-right A (omega arith)) (rw v′ at (pair-moved (h c) (h (c + 1)) t u (v - u) (step c (omega arith)))))
+      let moved = rw v′ at (pair-moved (h c) (h (c + 1)) t u (v - u) (step c (omega arith))) in
+      rw (e′, s′) (near-mono (mul-le-mul-right A (omega arith)) moved)
   further (suc k) c d s u t v D e l f g m n =
       let far : s + (k * P + v) ≤ D = omega arith in
       omega (
@@ -86,11 +93,14 @@ module _ {a : Axis} (o : Sized a) where
   pub line-near : (h k : ℕ → ℤ) (E : ℕ) → ((i : ℕ) → i < a .count → Near E (h i) (k i))
       → (z : ℤ) → onAxis a z ≡ true → Near (a .spacing * E) (line a h z) (line a k z)
   unfolding line
-  line-near h k E near z i = let p = cell-and-part z i in pair-near _ _ _ (p .whole) (near (cellFor a z) (omega arith)) (near (cellFor a z + 1) (p .cell-in))
+  line-near h k E near z i =
+      let p = cell-and-part z i in
+      pair-near _ _ _ (p .whole) (near (cellFor a z) (omega arith)) (near (cellFor a z + 1) (p .cell-in))
 
   module _ (h : ℕ → ℤ) (A : ℕ) (step : (i : ℕ) → i + 1 < a .count → Near A (h i) (h (i + 1))) (D : ℕ) where
     -- The change along the axis, for an angle w that does not lie before z.
-    ahead : (z w : ℤ) → onAxis a z ≡ true → onAxis a w ≡ true → Near D z w → offset a z ≤ offset a w → Near (D * A) (line a h z) (line a h w)
+    ahead : (z w : ℤ) → onAxis a z ≡ true → onAxis a w ≡ true → Near D z w → offset a z ≤ offset a w
+        → Near (D * A) (line a h z) (line a h w)
     unfolding line
     ahead z w i j n l =
         let c = cellFor a z in

@@ -1,7 +1,8 @@
 -- A grid that passes the check is a steady source: its nodes are all within question 9's limits, so every lookup in the bounds is answered,
 -- and its steps are within question 12's, so every value changes slowly.
 use mathlib.Core.Bool.{true}
-use mathlib.Core.Path.{_≡_}
+use mathlib.Core.List.{List}
+use mathlib.Core.Path.{_≡_, subst}
 use Prim.Native.Nat.{ℕ, _+_, _-_, _≤_, _<_}
 use native.Mathlib.Nat.{le-trans}
 use native.Mathlib.Omega.{arith}
@@ -13,25 +14,25 @@ use Rattle.integers.specs.Distance.{Near, near-sym, abs-near}
 use Rattle.integers.specs.Booleans.{and-both, all-three}
 use Rattle.rules.specs.declared.Axis.{Axis}
 use Rattle.rules.specs.declared.Geometry.{Geometry}
+use Rattle.rules.specs.declared.Layout.{Layout}
 use Rattle.rules.specs.declared.Point.{Point}
-use Rattle.rules.specs.declared.Correction.{Correction}
 use Rattle.rules.specs.declared.Findings.{Findings}
+use Rattle.rules.specs.Units.{correctionLimit, quasiGeoidLimit}
 use Rattle.rules.specs.Answers.{values}
-use Rattle.rules.specs.Image.{Grid, nodeAt, rows, columns, farBound}
-use Rattle.rules.specs.Limits.{Open}
+use Rattle.rules.specs.Image.{Grid, gridOf, rows, columns, farBound}
+use Rattle.rules.specs.Limits.{GeometryPasses, Open}
 use Rattle.rules.specs.Bilinear.{valueAt}
-use Rattle.rules.specs.Lookup.{onAxis, inside, nodePasses, cellPasses, question9, lookup}
+use Rattle.rules.specs.Lookup.{onAxis, inside, question9, correctionsAt, quasiGeoidAt, correctionLookup, heightLookup}
 use Rattle.rules.specs.Ways.{sourceOf}
-use Rattle.rules.specs.Check.{largest, allPass, stepNorth, stepEast, stepsOf, slopePasses, question12, findingsOf, check}
-use Rattle.rules.specs.Promise.{Inside}
+use Rattle.rules.specs.Check.{largest, allWithin, allPass, stepNorth, stepEast, stepsOf, slopePasses, question12, findingsOf, check}
+use Rattle.rules.specs.Promise.{Margin}
 use Rattle.rules.proofs.Answers.{asked}
-use Rattle.rules.proofs.Cells.{on-axis, point-within, at-corners}
-use Rattle.rules.proofs.Limits.{node-within}
+use Rattle.rules.proofs.Cells.{on-axis, point-within}
+use Rattle.rules.proofs.Corners.{cell-within, square-passes}
 use Rattle.rules.proofs.Largest.{largest-at}
-use Rattle.rules.proofs.Slopes.{all-pass-at}
-use Rattle.returning.specs.Points.{SteadyValue}
+use Rattle.rules.proofs.Slopes.{NodesWithin, all-within}
+use Rattle.returning.specs.Points.{Room, SteadyValue}
 use Rattle.returning.specs.Interpolation.{hundredth, value-limit, value-change}
-use Rattle.returning.specs.Iteration.{Room}
 use Rattle.returning.specs.Trips.{SteadySource}
 
 -- The largest over rows and columns bounds each.
@@ -40,86 +41,96 @@ largest-of m n f i j k l = le-trans (largest-at n (λ j. f i j) j l) (largest-at
 
 -- ---- one value: its nodes are within M, and question 12 lets its steps pass
 pub record NodesPass (g : Geometry) (M : ℕ) (f : ℕ → ℕ → ℤ) : Type 0 where
-  pub limit : (row column : ℕ) → row < rows g → column < columns g → natAbs (f row column) ≤ M
+  pub limit : NodesWithin M g f
   pub slope : slopePasses g (stepsOf g f) ≡ true
 
-module _ {length : ℕ} (g : Geometry) (o : Open length g) {M : ℕ} (f : ℕ → ℕ → ℤ) (n : NodesPass g M f) where
-  north : (row column : ℕ) → row + 1 < rows g → column < columns g → Near (stepNorth g f) (f row column) (f (row + 1) column)
+module _ {g : Geometry} (o : GeometryPasses g) {M : ℕ} (f : ℕ → ℕ → ℤ) (n : NodesPass g M f) where
+  northward : (row column : ℕ) → row + 1 < rows g → column < columns g → Near (stepNorth g f) (f row column) (f (row + 1) column)
   unfolding stepNorth
-  north row column k l =
-      near-sym (abs-near _ _ _ (largest-of (rows g - 1) (columns g) (λ row column. natAbs (f (row + 1) column -ℤ f row column)) row column (omega arith) l))
+  northward row column k l =
+      let step = largest-of (rows g - 1) (columns g) (λ row column. natAbs (f (row + 1) column -ℤ f row column)) row column in
+      near-sym (abs-near _ _ _ (step (omega arith) l))
 
-  east : (row column : ℕ) → row < rows g → column + 1 < columns g → Near (stepEast g f) (f row column) (f row (column + 1))
+  eastward : (row column : ℕ) → row < rows g → column + 1 < columns g → Near (stepEast g f) (f row column) (f row (column + 1))
   unfolding stepEast
-  east row column k l =
-      near-sym (abs-near _ _ _ (largest-of (rows g) (columns g - 1) (λ row column. natAbs (f row (column + 1) -ℤ f row column)) row column k (omega arith)))
+  eastward row column k l =
+      let step = largest-of (rows g) (columns g - 1) (λ row column. natAbs (f row (column + 1) -ℤ f row column)) row column in
+      near-sym (abs-near _ _ _ (step k (omega arith)))
 
   pub steady-value : SteadyValue (inside g) hundredth M (valueAt g f)
   unfolding slopePasses stepsOf
   steady-value =
       record {
-        limit = value-limit g o f M (n .limit);
-        change = value-change g o f (stepNorth g f) (stepEast g f) north east (leb-true _ _ (n .slope));
+        limit = value-limit o f M (n .limit);
+        change = value-change o f (stepNorth g f) (stepEast g f) northward eastward (leb-true _ _ (n .slope));
       }
 
 -- ---- a grid
 pub record Passes (g : Grid) : Type 0 where
-  pub nodes : (row column : ℕ) → row < rows (g .geometry) → column < columns (g .geometry) → nodePasses (nodeAt g row column) ≡ true
-  pub latitude : NodesPass (g .geometry) 10000000 (g .latitude)
-  pub longitude : NodesPass (g .geometry) 10000000 (g .longitude)
-  pub height : NodesPass (g .geometry) 1000000 (g .height)
+  pub latitude : NodesPass (g .corrections) correctionLimit (g .latitude)
+  pub longitude : NodesPass (g .corrections) correctionLimit (g .longitude)
+  pub height : NodesPass (g .heights) quasiGeoidLimit (g .height)
 
 pub passes : (g : Grid) (f : Findings) → check g ≡ values f → Passes g
-unfolding check question12 findingsOf
+unfolding check allPass question12 findingsOf
 passes g f h =
-    let k = g .geometry in
+    let c = g .corrections in
+    let e = g .heights in
     let a = asked (allPass g) 9 _ f h in
-    let b = asked (question12 k (findingsOf g)) 12 _ f (a .1) in
-    let slopes = all-three (slopePasses k (stepsOf k (g .latitude))) (slopePasses k (stepsOf k (g .longitude))) (slopePasses k (stepsOf k (g .height))) (b .0) in
-    let nodes = all-pass-at g (a .0) in
+    let b = asked (question12 g (findingsOf g)) 12 _ f (a .1) in
+    let nodes =
+    all-three (allWithin correctionLimit c (g .latitude)) (allWithin correctionLimit c (g .longitude))
+    (allWithin quasiGeoidLimit e (g .height)) (a .0) in
+    let slopes =
+    all-three (slopePasses c (stepsOf c (g .latitude))) (slopePasses c (stepsOf c (g .longitude)))
+    (slopePasses e (stepsOf e (g .height))) (b .0) in
     record {
-      nodes = nodes;
-      latitude = record { limit = λ row column i j. node-within (nodeAt g row column) (nodes row column i j) .latitude; slope = slopes .0 };
-      longitude = record { limit = λ row column i j. node-within (nodeAt g row column) (nodes row column i j) .longitude; slope = slopes .1 };
-      height = record { limit = λ row column i j. node-within (nodeAt g row column) (nodes row column i j) .height; slope = slopes .2 };
+      latitude = record { limit = all-within correctionLimit c (g .latitude) (nodes .0); slope = slopes .0 };
+      longitude = record { limit = all-within correctionLimit c (g .longitude) (nodes .1); slope = slopes .1 };
+      height = record { limit = all-within quasiGeoidLimit e (g .height) (nodes .2); slope = slopes .2 };
     }
 
-abbrev pub correctionAt : Grid → Point → Correction
-correctionAt g q = record { latitude = valueAt (g .geometry) (g .latitude) q; longitude = valueAt (g .geometry) (g .longitude) q }
-
-abbrev pub heightAt : Grid → Point → ℤ
-heightAt g q = valueAt (g .geometry) (g .height) q
-
-module _ {length : ℕ} (g : Grid) (o : Open length (g .geometry)) (c : Passes g) where
+-- ---- the grid of an opened image. In edition 1 both geometries are one, so the corrections' cell of a point is its heights' cell.
+module _ {size : ℕ} (b : List ℕ) (l : Layout) (o : Open size l) (c : Passes (gridOf b l)) where
   -- Question 9 has the answer yes everywhere.
-  cells-pass : (q : Point) → question9 g q ≡ true
-  unfolding question9 cellPasses
+  cells-pass : (q : Point) → question9 (gridOf b l) q ≡ true
+  unfolding question9
   cells-pass q =
-      let n = at-corners (λ row column. nodePasses (nodeAt g row column) ≡ true) o (c .nodes) q in
-      and-both (and-both (n .0) (n .1)) (and-both (n .2) (n .3))
+      let g = gridOf b l in
+      let k = o .latitude .geometry in
+      let heights = subst (λ (k : Geometry). NodesWithin quasiGeoidLimit k (g .height)) (o .height-geometry) (c .height .limit) in
+      and-both (square-passes _ _ (cell-within (g .latitude) k (c .latitude .limit) q))
+      (and-both (square-passes _ _ (cell-within (g .longitude) k (c .longitude .limit) q))
+      (square-passes _ _ (cell-within (g .height) k heights q)))
 
-  pub steady : SteadySource (sourceOf g) (correctionAt g) (heightAt g)
-  unfolding lookup
+  pub steady : let g = gridOf b l in SteadySource (sourceOf g) (correctionsAt g) (inside (g .heights)) (quasiGeoidAt g)
+  unfolding correctionLookup heightLookup
   steady =
+      let g = gridOf b l in
+      let k = o .latitude .geometry in
       record {
-        corrections = record {
-          answered = λ q i. rw (cells-pass q);
-          latitude = steady-value (g .geometry) o (g .latitude) (c .latitude);
-          longitude = steady-value (g .geometry) o (g .longitude) (c .longitude);
+        angles = record {
+          corrections = record {
+            answered = λ q i. rw (cells-pass q);
+            latitude = steady-value k (g .latitude) (c .latitude);
+            longitude = steady-value k (g .longitude) (c .longitude);
+          };
+          point-within = λ q i. point-within (g .corrections) q k i;
         };
-        height-answered = λ q i. rw (cells-pass q);
-        height = steady-value (g .geometry) o (g .height) (c .height);
-        point-within = λ q i. point-within (g .geometry) q (o .latitude) (o .longitude) i;
+        heights = record {
+          answered = λ q i. rw (cells-pass q);
+          value = steady-value (o .height .geometry) (g .height) (c .height);
+        };
       }
 
--- Every point within M of one that is at least d inside is in the bounds, where d is no less than M.
-axis-room : (a : Axis) (d M : ℕ) (z w : ℤ) → M ≤ d → (a .start +ℤ pos d) ≤ℤ z → z ≤ℤ (farBound a -ℤ pos d) → Near M w z → onAxis a w ≡ true
-axis-room a d M z w l h k n =
+-- ---- every point within d of one that is at least d inside is in the bounds
+axis-room : (a : Axis) (d : ℕ) (z w : ℤ) → (a .start +ℤ pos d) ≤ℤ z → z ≤ℤ (farBound a -ℤ pos d) → Near d w z → onAxis a w ≡ true
+axis-room a d z w h k n =
     on-axis a w (omega (arith, order, var (a .start) ⊕ lit d)) (omega (arith, order, var (farBound a) ⊖ lit d))
 
-pub room : (g : Grid) (d M : ℕ) (p : Point) → M ≤ d → Inside d (g .geometry) p → Room (sourceOf g) M p
+pub room : (g : Geometry) (d : ℕ) (p : Point) → Margin d g p → Room (inside g) d p
 unfolding inside
-room g d M p l n q h =
+room g d p n q h =
     and-both
-    (axis-room (g .geometry .latitude) d M (p .latitude) (q .latitude) l (n .from-south) (n .to-north) (h .latitude))
-    (axis-room (g .geometry .longitude) d M (p .longitude) (q .longitude) l (n .from-west) (n .to-east) (h .longitude))
+    (axis-room (g .latitude) d (p .latitude) (q .latitude) (n .from-south) (n .to-north) (h .latitude))
+    (axis-room (g .longitude) d (p .longitude) (q .longitude) (n .from-west) (n .to-east) (h .longitude))

@@ -1,32 +1,45 @@
--- The return promise, for every list of bytes that passes the grid check.
+-- The return promise (demand 3), for every list of bytes that passes the grid check.
 use mathlib.Core.List.{List}
 use mathlib.Core.Path.{_≡_}
 use Prim.Native.Nat.{ℕ}
-use native.Mathlib.Omega.{arith}
-use Rattle.rules.specs.declared.Geometry.{Geometry}
-use Rattle.rules.specs.declared.Findings.{Findings}
+use lib.IntN.{ℤ}
+use Rattle.rules.specs.declared.Layout.{Layout}
+use Rattle.rules.specs.declared.Point.{Point}
+use Rattle.rules.specs.declared.Way.{Way}
 use Rattle.rules.specs.Answers.{values}
 use Rattle.rules.specs.Image.{gridOf}
 use Rattle.rules.specs.Questions.{opening}
-use Rattle.rules.specs.Ways.{convert}
+use Rattle.rules.specs.Lookup.{inside}
+use Rattle.rules.specs.Ways.{sourceOf, convertOver, convert}
 use Rattle.rules.specs.Check.{gridCheck}
-use Rattle.rules.specs.Promise.{ReturnPromise}
+use Rattle.rules.specs.Promise.{Margins, Promised}
 use Rattle.rules.proofs.Opening.{opened}
 use Rattle.rules.proofs.Answers.{followed}
-use Rattle.returning.specs.Trips.{fix-trip, point-trip}
+use Rattle.returning.specs.Trips.{Rooms, fixes, points}
 use Rattle.returning.specs.Passing.{passes, steady, room}
 
-pub promise : (b : List ℕ) (g : Geometry) (f : Findings) → opening b ≡ values g → gridCheck b ≡ values f → ReturnPromise b g
-unfolding gridCheck convert
-promise b g f e c =
-    let d = gridOf b g in
-    let t = steady d (opened b g e) (passes d f (rw e at c)) in
-    record {
-      fixes = λ p h n l. fix-trip t b (λ w p h. rw e) p h (room d _ _ p (omega arith) n) l;
-      points = λ q H n l. point-trip t b (λ w p h. rw e) q H (room d _ _ q (omega arith) n) l;
-    }
+-- A point inside both margins has room in both bounds.
+rooms : (b : List ℕ) (l : Layout) (d : ℕ) (p : Point) → Margins d l p
+    → Rooms (sourceOf (gridOf b l)) (inside (l .height .geometry)) d p
+rooms b l d p n = record { corrections = room _ d p (n .corrections); heights = room _ d p (n .heights) }
 
--- An image that passes the check has a geometry, and keeps the promise over it.
-pub kept : (b : List ℕ) (f : Findings) → gridCheck b ≡ values f → (g : Geometry) × (opening b ≡ values g) × ReturnPromise b g
+-- The conversions of an image that opens are those of its grid.
+over-grid : (b : List ℕ) (l : Layout) → opening b ≡ values l
+    → (w : Way) (p : Point) (h : ℤ) → convert w b p h ≡ convertOver w (sourceOf (gridOf b l)) p h
+unfolding convert
+over-grid b l e w p h = rw e
+
+pub promise : Promised
 unfolding gridCheck
-kept b f c = let o = followed (opening b) _ f c in (o .0, o .1, promise b (o .0) f (o .1) c)
+promise b f c =
+    let o = followed (opening b) _ f c in
+    let l = o .0 in
+    let t = steady b l (opened b l (o .1)) (passes (gridOf b l) f (o .2)) in
+    let same = over-grid b l (o .1) in (
+      l,
+      o .1,
+      record {
+        fixes = λ p h n k. fixes t b same p h (rooms b l _ p n) k;
+        points = λ q H n k. points t b same q H (rooms b l _ q n) k;
+      },
+    )

@@ -11,7 +11,8 @@ asked true n next a h = (refl, h)
 asked false n next a h = let z : _≡_ {A = ℕ} 0 1 = cc in absurd (omega arith)
 
 -- Where values came next, the step before gave values.
-pub followed : {A B : Type 0} (o : Outcome A) (next : A → Outcome B) (b : B) → andThen o next ≡ values b → (a : A) × (o ≡ values a) × (next a ≡ values b)
+pub followed : {A B : Type 0} (o : Outcome A) (next : A → Outcome B) (b : B) → andThen o next ≡ values b
+    → (a : A) × (o ≡ values a) × (next a ≡ values b)
 followed (values a) next b h = (a, refl, h)
 followed (number n) next b h = let z : _≡_ {A = ℕ} 0 1 = cc in absurd (omega arith)
 

@@ -1,9 +1,11 @@
--- The laws of an axis that questions 3 to 5 let pass: angles between its bounds, an offset's cell and its part of it; and of points over two.
+-- The laws of an axis that questions 3 to 5 let pass: angles between its bounds, an offset's cell and its part of it; and of points over
+-- two such axes.
 use mathlib.Core.Bool.{true}
 use mathlib.Core.Path.{_≡_, ap}
 use Prim.Native.Nat.{ℕ, _+_, _-_, _*_, _/_, _≤_, _<_, min}
 use native.Mathlib.Decide.{decLe}
-use native.Mathlib.Nat.{mul-le-mul, min-le-left, min-le-right, min-eq-left, min-eq-right, le-min, mul-le-mul-right, le-trans, div-mul-le-self, le-div-iff-mul-le, div-lt-iff-lt-mul, lt-div-mul-add}
+use native.Mathlib.Nat.{mul-le-mul, min-le-left, min-le-right, min-eq-left, min-eq-right, le-min}
+use native.Mathlib.Nat.{mul-le-mul-right, le-trans, div-mul-le-self, le-div-iff-mul-le, div-lt-iff-lt-mul, lt-div-mul-add}
 use native.Mathlib.Omega.{arith}
 use lib.IntN.{ℤ, natAbs}
 use lib.Signed.{_≤ℤ_, leZ}
@@ -14,10 +16,9 @@ use Rattle.integers.specs.Booleans.{and-left, and-right, and-both}
 use Rattle.rules.specs.declared.Axis.{Axis}
 use Rattle.rules.specs.declared.Geometry.{Geometry}
 use Rattle.rules.specs.declared.Point.{Point}
-use Rattle.rules.specs.Units.{degrees}
 use Rattle.rules.specs.Image.{farBound, rows, columns}
-use Rattle.rules.specs.Limits.{Sized, AxisPasses, Open, PointWithin}
-use Rattle.rules.specs.Bilinear.{offset, cellOf, partOf, cellFor}
+use Rattle.rules.specs.Limits.{Sized, AxisPasses, GeometryPasses, PointWithin}
+use Rattle.rules.specs.Bilinear.{offset, cellOf, partOf, cellFor, partFor}
 use Rattle.rules.specs.Lookup.{onAxis, inside}
 
 -- An angle on the axis lies between its bounds, and conversely.
@@ -36,7 +37,9 @@ on-axis a z h k = and-both (is-leZ (a .start) z (≤ℤ-parts _ _ h)) (is-leZ z 
 -- Its offset is at most (count − 1) spacings.
 pub offset-most : (a : Axis) (z : ℤ) → onAxis a z ≡ true → offset a z ≤ (a .count - 1) * a .spacing
 offset-most a z h =
-    omega (arith, order, from-start a z h, to-far a z h, abs-is (var z ⊖ var (a .start)), var (a .start) ⊕ lit ((a .count - 1) * a .spacing))
+    let from = from-start a z h in
+    let to = to-far a z h in
+    omega (arith, order, abs-is (var z ⊖ var (a .start)), var (a .start) ⊕ lit ((a .count - 1) * a .spacing))
 
 -- The cells are 0 to count − 2.
 pub cell-most : (a : Axis) (x : ℕ) → cellOf a x ≤ a .count - 2
@@ -48,15 +51,26 @@ pub cell-nodes : (a : Axis) (x : ℕ) → Sized a → cellOf a x + 1 < a .count
 cell-nodes a x o = omega (arith, cell-most a x, o .count-least)
 
 -- What holds of every node holds of the four corners of a point's cell.
-pub at-corners : {size : ℕ} {g : Geometry} (T : ℕ → ℕ → Type 0) → Open size g → ((row column : ℕ) → row < rows g → column < columns g → T row column)
-    → (p : Point) → let row = cellFor (g .latitude) (p .latitude) in let column = cellFor (g .longitude) (p .longitude) in
-    T row column × T row (column + 1) × T (row + 1) column × T (row + 1) (column + 1)
+pub record AtCorners (T : ℕ → ℕ → Type 0) (row column : ℕ) : Type 0 where
+  pub southwest : T row column
+  pub southeast : T row (column + 1)
+  pub northwest : T (row + 1) column
+  pub northeast : T (row + 1) (column + 1)
+
+pub at-corners : {g : Geometry} (T : ℕ → ℕ → Type 0) → GeometryPasses g
+    → ((row column : ℕ) → row < rows g → column < columns g → T row column)
+    → (p : Point) → AtCorners T (cellFor (g .latitude) (p .latitude)) (cellFor (g .longitude) (p .longitude))
 at-corners {g} T o all p =
     let row = cellFor (g .latitude) (p .latitude) in
     let column = cellFor (g .longitude) (p .longitude) in
     let k = cell-nodes (g .latitude) (offset (g .latitude) (p .latitude)) (o .latitude .sized) in
     let l = cell-nodes (g .longitude) (offset (g .longitude) (p .longitude)) (o .longitude .sized) in
-    (all row column (omega arith) (omega arith), all row (column + 1) (omega arith) l, all (row + 1) column k (omega arith), all (row + 1) (column + 1) k l)
+    record {
+      southwest = all row column (omega arith) (omega arith);
+      southeast = all row (column + 1) (omega arith) l;
+      northwest = all (row + 1) column k (omega arith);
+      northeast = all (row + 1) (column + 1) k l;
+    }
 
 -- So many whole spacings, or fewer, reach at most to the offset; so the cell starts at or before it.
 pub whole-spacings : (x spacing most : ℕ) → min (x / spacing) most * spacing ≤ x
@@ -93,8 +107,12 @@ part-most a x o h = by (decLe (x / a .spacing) (a .count - 2))
     by (yes l) = rw (min-eq-left l) (omega (arith, lt-div-mul-add {a = x} (o .spacing-least)))
     by (no l) =
         let m : min (x / a .spacing) (a .count - 2) ≡ a .count - 2 = min-eq-right (omega arith) in
-        let e : (a .count - 2 + 1) * a .spacing ≡ (a .count - 1) * a .spacing = ap (λ (n : ℕ). n * a .spacing) (omega (arith, o .count-least)) in
-        rw m (omega arith)
+        let k : a .count - 2 + 1 ≡ a .count - 1 = omega (arith, o .count-least) in
+        rw m (omega (arith, ap (λ (n : ℕ). n * a .spacing) k))
+
+-- The same of an angle on the axis.
+pub part-for-most : (a : Axis) (z : ℤ) → Sized a → onAxis a z ≡ true → partFor a z ≤ a .spacing
+part-for-most a z o i = part-most a (offset a z) o (offset-most a z i)
 
 -- An axis is at most 4,095 × 100,000,000 nd long.
 pub length-most : (a : Axis) → Sized a → (a .count - 1) * a .spacing ≤ 409500000000
@@ -114,6 +132,9 @@ unfolding inside
 on-longitude g p h = and-right (onAxis (g .latitude) (p .latitude)) _ h
 
 -- A point in the bounds is within the limits of its angles.
-pub point-within : (g : Geometry) (p : Point) → AxisPasses (degrees 90) (g .latitude) → AxisPasses (degrees 180) (g .longitude) → inside g p ≡ true → PointWithin p
-point-within g p latitude longitude i =
-    record { latitude = axis-within latitude (p .latitude) (on-latitude g p i); longitude = axis-within longitude (p .longitude) (on-longitude g p i) }
+pub point-within : (g : Geometry) (p : Point) → GeometryPasses g → inside g p ≡ true → PointWithin p
+point-within g p o i =
+    record {
+      latitude = axis-within (o .latitude) (p .latitude) (on-latitude g p i);
+      longitude = axis-within (o .longitude) (p .longitude) (on-longitude g p i);
+    }

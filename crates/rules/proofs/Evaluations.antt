@@ -12,7 +12,8 @@ use Rattle.rules.proofs.Answers.{asked, followed}
 
 -- Every answer has what the last evaluation gives it, where evaluations before the last keep that.
 module _ (s : Source) (stop : ℕ) (p : Point) (T : (left n : ℕ) → Settled → Type 0)
-    (last : (left n : ℕ) (r : Point) (c : Correction) → s .inside r ≡ true → s .corrections r ≡ values c → s .inside (minus p c) ≡ true → settled stop (minus p c) r ≡ true
+    (last : (left n : ℕ) (r : Point) (c : Correction)
+    → s .inside r ≡ true → s .corrections r ≡ values c → s .inside (minus p c) ≡ true → settled stop (minus p c) r ≡ true
     → T (suc left) n (record { point = minus p c; count = n + 1 }))
     (before : (left n : ℕ) (e : Settled) → T left (n + 1) e → T (suc left) n e)
   where
@@ -28,7 +29,9 @@ module _ (s : Source) (stop : ℕ) (p : Point) (T : (left n : ℕ) → Settled �
         (λ t k. before left n e (every-answer left (n + 1) q (a .0) e k))
 
 -- An answer counts the evaluation that gives it, and at most those that were left.
-pub counted : (s : Source) (stop : ℕ) (p : Point) (left n : ℕ) (r : Point) → s .inside r ≡ true → (e : Settled) → iterate s stop p left n r ≡ values e
-    → (n < e .count) × (e .count ≤ n + left)
+pub counted : (s : Source) (stop : ℕ) (p : Point) (left n : ℕ) (r : Point) → s .inside r ≡ true
+    → (e : Settled) → iterate s stop p left n r ≡ values e → (n < e .count) × (e .count ≤ n + left)
 counted s stop p =
-    every-answer s stop p (λ left n e. (n < e .count) × (e .count ≤ n + left)) (λ left n r c i f j t. omega arith) (λ left n e h. omega arith)
+    every-answer s stop p (λ left n e. (n < e .count) × (e .count ≤ n + left))
+    (λ left n r c i f j t. omega arith)
+    (λ left n e h. omega arith)

@@ -1,5 +1,5 @@
 -- Laws about the rules, for the crates above.
-pub mod Order
+pub mod Examples
 pub mod Answers
 pub mod Opening
 pub mod Cells
@@ -8,3 +8,4 @@ pub mod Largest
 pub mod Slopes
 pub mod Weights
 pub mod Evaluations
+pub mod Corners

@@ -4,23 +4,31 @@ use mathlib.Core.Path.{_≡_}
 use Prim.Native.Nat.{ℕ, _+_, _-_, _*_, _≤_, _<_}
 use native.Mathlib.Omega.{arith}
 use lib.IntN.{ℤ, natAbs, _-ℤ_}
+use borrow.Author.Tests.{leb-true}
 use Rattle.integers.specs.Difference.{var, _⊖_}
 use Rattle.integers.specs.Distance.{abs-is}
 use Rattle.rules.specs.declared.Geometry.{Geometry}
-use Rattle.rules.specs.Image.{Grid, nodeAt, rows, columns}
-use Rattle.rules.specs.Lookup.{nodePasses}
-use Rattle.rules.specs.Check.{every, allPass, stepNorth, stepEast}
+use Rattle.rules.specs.Units.{within}
+use Rattle.rules.specs.Image.{rows, columns}
+use Rattle.rules.specs.Check.{every, allWithin, stepNorth, stepEast}
 use Rattle.rules.proofs.Largest.{every-at, largest-most}
 
-pub all-pass-at : (g : Grid) → allPass g ≡ true → (row column : ℕ) → row < rows (g .geometry) → column < columns (g .geometry) → nodePasses (nodeAt g row column) ≡ true
-unfolding allPass
-all-pass-at g h row column i j =
-    every-at (columns (g .geometry)) _ (every-at (rows (g .geometry)) (λ row. every (columns (g .geometry)) (λ column. nodePasses (nodeAt g row column))) h row i) column j
+-- A limit that holds of every node's value.
+abbrev pub NodesWithin : ℕ → Geometry → (ℕ → ℕ → ℤ) → Type 0
+NodesWithin limit g f = (row column : ℕ) → row < rows g → column < columns g → natAbs (f row column) ≤ limit
 
-module _ (g : Geometry) (f : ℕ → ℕ → ℤ) (m : ℕ) (within : (row column : ℕ) → row < rows g → column < columns g → natAbs (f row column) ≤ m) where
+pub all-within : (limit : ℕ) (g : Geometry) (f : ℕ → ℕ → ℤ) → allWithin limit g f ≡ true → NodesWithin limit g f
+unfolding allWithin
+all-within limit g f h row column i j =
+    let along = every-at (rows g) (λ row. every (columns g) (λ column. within limit (f row column))) h row i in
+    leb-true _ _ (every-at (columns g) (λ column. within limit (f row column)) along column j)
+
+module _ (g : Geometry) (f : ℕ → ℕ → ℤ) (m : ℕ) (within : NodesWithin m g f) where
   step-most : (i j k l : ℕ) → i < rows g → j < columns g → k < rows g → l < columns g → natAbs (f i j -ℤ f k l) ≤ 2 * m
   step-most i j k l hi hj hk hl =
-      omega (arith, within i j hi hj, within k l hk hl, abs-is (var (f i j) ⊖ var (f k l)), abs-is (var (f i j)), abs-is (var (f k l)))
+      let first = within i j hi hj in
+      let second = within k l hk hl in
+      omega (arith, abs-is (var (f i j) ⊖ var (f k l)), abs-is (var (f i j)), abs-is (var (f k l)))
 
   pub north-most : stepNorth g f ≤ 2 * m
   unfolding stepNorth

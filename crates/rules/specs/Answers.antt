@@ -1,11 +1,13 @@
 -- Document 01, "Questions in order": an answer is its values or a question's number alone. What an enum of the code says in these terms
--- stands with the rule that it answers: openedOf (Questions), lookupOf (Lookup), answerOf (Ways), checkedOf (Check), readingOf and
--- writingOf (Notation).
+-- stands with the rule that it answers: openedOf (Questions), heightLookupOf (Lookup), answerOf (Ways), checkedOf (Check), readingOf and
+-- writingOf (Notation), tripOf (Trip).
 use mathlib.Core.Bool.{Bool, true, false}
 use Prim.Native.Nat.{ℕ}
 use lib.IntN.{ℤ, pos}
 use Rattle.rules.specs.declared.Refusal.{Refusal}
-use Rattle.rules.specs.declared.Refusal.the-variants.{ImageLength, Edition, NodeCount, Spacing, GridBounds, NodeBytes, FixLimits, OutsideBounds, NodeLimits, IterateOutside, NotSettled, Slope, BadNotation, ListLengths}
+use Rattle.rules.specs.declared.Refusal.the-variants.{ImageLength, Edition, NodeCount, Spacing, GridBounds, NodeBytes}
+use Rattle.rules.specs.declared.Refusal.the-variants.{FixLimits, OutsideBounds, NodeLimits, IterateOutside, NotSettled}
+use Rattle.rules.specs.declared.Refusal.the-variants.{Slope, BadNotation, ListLengths}
 
 -- Values, or the number of the question whose answer was no.
 pub data Outcome (A : Type 0) : Type 0 where

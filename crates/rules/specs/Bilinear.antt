@@ -1,4 +1,6 @@
 -- Document 01, "Bilinear value", over any values by row and column.
+-- The offset of an angle, its cell, its part of the cell and the value at a point mean something only in the bounds. Outside them the
+-- offset is the distance to the start, to whichever side, and the cell the last at most: no rule asks for them there.
 use Prim.Native.Nat.{ℕ, _+_, _-_, _*_, _/_, min}
 use mathlib.Core.List.{List, []}
 use lib.IntN.{ℤ, pos, natAbs, _+ℤ_, _-ℤ_, _*ℤ_}
@@ -7,6 +9,7 @@ use Rattle.integers.specs.Rounding.{roundHalfUp}
 use Rattle.rules.specs.declared.Axis.{Axis}
 use Rattle.rules.specs.declared.Geometry.{Geometry}
 use Rattle.rules.specs.declared.Point.{Point}
+use Rattle.rules.specs.declared.Square.{Square}
 
 -- The distance of an angle from the axis's start, the south or west bound.
 abbrev pub offset : Axis → ℤ → ℕ
@@ -26,13 +29,6 @@ cellFor a z = cellOf a (offset a z)
 
 abbrev pub partFor : Axis → ℤ → ℕ
 partFor a z = partOf a (offset a z)
-
--- The four corner values of a cell.
-pub record Square : Type 0 where
-  pub southwest : ℤ
-  pub southeast : ℤ
-  pub northwest : ℤ
-  pub northeast : ℤ
 
 -- The four corner values from document 01's two by two square: two rows of two, the south row first, each from west to east.
 abbrev pub squareOf : List (List ℤ) → Square
@@ -54,7 +50,8 @@ corners f row column =
       northeast = f (row + 1) (column + 1);
     }
 
--- The sum of corner times weight: u and v are the point's distance from the cell's south and west side, P and Q the latitude and longitude spacing.
+-- The sum of corner times weight: u and v are the point's distance from the cell's south and west side, P and Q the latitude and longitude
+-- spacing.
 unfoldable pub weighted : Square → (u v P Q : ℕ) → ℤ
 weighted c u v P Q =
     c .southwest *ℤ pos ((P - u) * (Q - v))

@@ -1,18 +1,18 @@
 -- Document 01, "Grid check": question 9 over all nodes, the largest steps between neighbours, question 12.
 use mathlib.Core.Bool.{Bool, true, _&&_}
-use mathlib.Core.List.{List}
+use mathlib.Core.List.{List, [], _∷_}
 use Prim.Native.Nat.{ℕ, zero, suc, _+_, _-_, _*_, max}
 use lib.Dec.{leb}
-use lib.IntN.{ℤ, natAbs, _-ℤ_}
+use lib.IntN.{ℤ, pos, natAbs, _-ℤ_}
 use Rattle.rules.specs.declared.Geometry.{Geometry}
 use Rattle.rules.specs.declared.Steps.{Steps}
 use Rattle.rules.specs.declared.Findings.{Findings}
 use Rattle.rules.specs.declared.Checked.{Checked}
 use Rattle.rules.specs.declared.Checked.the-variants as checked
+use Rattle.rules.specs.Units.{within, correctionLimit, quasiGeoidLimit}
 use Rattle.rules.specs.Answers.{Outcome, values, number, ask, andThen, numberOf}
-use Rattle.rules.specs.Image.{Grid, gridOf, nodeAt, rows, columns}
+use Rattle.rules.specs.Image.{Grid, gridOf, rows, columns}
 use Rattle.rules.specs.Questions.{opening}
-use Rattle.rules.specs.Lookup.{nodePasses}
 
 -- Whether t holds of 0, 1, … n − 1.
 unfoldable pub every : ℕ → (ℕ → Bool) → Bool
@@ -24,9 +24,16 @@ unfoldable pub largest : ℕ → (ℕ → ℕ) → ℕ
 largest zero f = 0
 largest (suc n) f = max (largest n f) (f n)
 
--- Question 9 over all nodes.
+-- Question 9 of one value over all nodes.
+unfoldable pub allWithin : (limit : ℕ) → Geometry → (ℕ → ℕ → ℤ) → Bool
+allWithin limit g f = every (rows g) (λ row. every (columns g) (λ column. within limit (f row column)))
+
+-- The same of the three values, each with its limit.
 unfoldable pub allPass : Grid → Bool
-allPass g = every (rows (g .geometry)) (λ row. every (columns (g .geometry)) (λ column. nodePasses (nodeAt g row column)))
+allPass g =
+    allWithin correctionLimit (g .corrections) (g .latitude)
+    && (allWithin correctionLimit (g .corrections) (g .longitude)
+    && allWithin quasiGeoidLimit (g .heights) (g .height))
 
 -- The largest absolute step between neighbours: A in latitude, B in longitude.
 unfoldable pub stepNorth : Geometry → (ℕ → ℕ → ℤ) → ℕ
@@ -37,37 +44,49 @@ stepEast g f = largest (rows g) (λ row. largest (columns g - 1) (λ column. nat
 
 -- Both, of one value.
 unfoldable pub stepsOf : Geometry → (ℕ → ℕ → ℤ) → Steps
-stepsOf g f = record { north = stepNorth g f; east = stepEast g f }
+stepsOf g f = record { northward = stepNorth g f; eastward = stepEast g f }
 
 -- 12. Is 100 × (A × Q + B × P) at most P × Q?
 unfoldable pub slopePasses : Geometry → Steps → Bool
 slopePasses g s =
     let P = g .latitude .spacing in
     let Q = g .longitude .spacing in
-    leb (100 * (s .north * Q + s .east * P)) (P * Q)
+    leb (100 * (s .northward * Q + s .eastward * P)) (P * Q)
 
--- The same for each of the three values.
-unfoldable pub question12 : Geometry → Findings → Bool
-question12 g f = slopePasses g (f .latitude) && (slopePasses g (f .longitude) && slopePasses g (f .height))
+-- The same for each of the three values, with the spacings of its geometry.
+unfoldable pub question12 : Grid → Findings → Bool
+question12 g f =
+    slopePasses (g .corrections) (f .latitude)
+    && (slopePasses (g .corrections) (f .longitude)
+    && slopePasses (g .heights) (f .height))
 
 -- A and B for latitude correction, longitude correction and height.
 unfoldable pub findingsOf : Grid → Findings
 findingsOf g =
     record {
-      latitude = stepsOf (g .geometry) (g .latitude);
-      longitude = stepsOf (g .geometry) (g .longitude);
-      height = stepsOf (g .geometry) (g .height);
+      latitude = stepsOf (g .corrections) (g .latitude);
+      longitude = stepsOf (g .corrections) (g .longitude);
+      height = stepsOf (g .heights) (g .height);
     }
 
 -- The check of a grid: question 9, question 12, then the findings.
 unfoldable pub check : Grid → Outcome Findings
-check g = ask (allPass g) 9 (ask (question12 (g .geometry) (findingsOf g)) 12 (values (findingsOf g)))
+check g = ask (allPass g) 9 (ask (question12 g (findingsOf g)) 12 (values (findingsOf g)))
 
 -- The grid check of an image: questions 1 to 6 first.
 unfoldable pub gridCheck : List ℕ → Outcome Findings
-gridCheck b = andThen (opening b) (λ g. check (gridOf b g))
+gridCheck b = andThen (opening b) (λ l. check (gridOf b l))
 
 -- The code's answer, in these terms.
 abbrev pub checkedOf : Checked → Outcome Findings
 checkedOf (checked.Passed f) = values f
 checkedOf (checked.Refused r) = number (numberOf r)
+
+-- What the grid check over C leaves in its lent array: A and B of latitude correction, longitude correction and height, or with a number
+-- what was there before.
+abbrev pub findingsAfter : Outcome Findings → List ℤ → List ℤ
+findingsAfter (values f) before =
+    pos (f .latitude .northward) ∷ pos (f .latitude .eastward)
+    ∷ pos (f .longitude .northward) ∷ pos (f .longitude .eastward)
+    ∷ pos (f .height .northward) ∷ pos (f .height .eastward) ∷ []
+findingsAfter (number n) before = before

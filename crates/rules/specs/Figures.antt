@@ -6,15 +6,16 @@ use Prim.Native.Nat.{ℕ, _+_, _-_, _*_, _/_, _%_}
 use lib.IntN.{ℤ, pos, negsuc, negℤ, _+ℤ_}
 use Rattle.integers.specs.Rounding.{roundHalfUp}
 use Rattle.rules.specs.declared.Point.{Point}
-use Rattle.rules.specs.declared.Node.{Node}
+use Rattle.rules.specs.declared.Correction.{Correction}
 use Rattle.rules.specs.declared.Notation.{Notation}
 use Rattle.rules.specs.Answers.{Outcome, values, number, andThen}
 use Rattle.rules.specs.Image.{u64At, i32At, i64At, trailerOf, plane, gridOf}
 use Rattle.rules.specs.Questions.{question3, question4, boundsWithin, question5, question6, judge, opening}
 use Rattle.rules.specs.Bilinear.{cellOf, partOf, weighted, bilinear, valueAt}
-use Rattle.rules.specs.Lookup.{onAxis, inside, nodePasses, cellPasses, question9, lookup}
+use Rattle.rules.specs.Lookup.{onAxis, inside, squarePasses, question9, correctionLookup, heightLookup}
 use Rattle.rules.specs.Ways.{question7, plus, minus, position, back, settled, iterate, out, convertOver, convert, wayBack, wayOut}
-use Rattle.rules.specs.Check.{every, largest, allPass, stepNorth, stepEast, stepsOf, slopePasses, question12, findingsOf, check, gridCheck}
+use Rattle.rules.specs.Check.{every, largest, allWithin, allPass, stepNorth, stepEast, stepsOf}
+use Rattle.rules.specs.Check.{slopePasses, question12, findingsOf, check, gridCheck}
 use Rattle.rules.specs.Notation.{total, readable, magnitudeRead, readNotation, totalWritten, split, writeNotation}
 
 -- The trailer of G: south 52,000,000,000, west 5,000,000,000, spacings 1,000, 3 rows, 3 columns, back 148, edition 1.
@@ -58,9 +59,9 @@ variant latitude longitude = row 0 (row 1 (row 2 trailerG))
 abbrev pub at : ℤ → ℤ → Point
 at x y = record { latitude = pos 52000000000 +ℤ x; longitude = pos 5000000000 +ℤ y }
 
--- The lookup at a point of an image: questions 1 to 6 first.
-abbrev lookupAt : List ℕ → Point → Outcome Node
-lookupAt b p = andThen (opening b) (λ g. lookup (gridOf b g) p)
+-- The corrections at a point of an image: questions 1 to 6 first.
+abbrev correctionsOver : List ℕ → Point → Outcome Correction
+correctionsOver b p = andThen (opening b) (λ l. correctionLookup (gridOf b l) p)
 
 -- Longitude correction −100 − column.
 abbrev slanted : List ℕ
@@ -88,11 +89,11 @@ pub record Figures : Type 0 where
   -- Back (2001, 2000): 8.
   pub back-outside : wayBack gridG (at (pos 2001) (pos 2000)) (pos 0) ≡ number 8
   -- Back (125, 0): latitude correction 100.5 gives 101.
-  pub half-up : lookupAt gridG (at (pos 125) (pos 0)) ≡ values (record { latitude = pos 101; longitude = negℤ (pos 50); height = pos 430000 })
+  pub half-up : correctionsOver gridG (at (pos 125) (pos 0)) ≡ values (record { latitude = pos 101; longitude = negℤ (pos 50) })
   pub back-half : wayBack gridG (at (pos 125) (pos 0)) (pos 0) ≡ values (position (at (pos 226) (negℤ (pos 50))) (pos 430000) 1)
   -- With longitude correction −100 − column, (0, 500) gives −100 and (0, 700) gives −101.
-  pub half-below-zero : lookupAt slanted (at (pos 0) (pos 500)) ≡ values (record { latitude = pos 100; longitude = negℤ (pos 100); height = pos 430003 })
-  pub down-below-zero : lookupAt slanted (at (pos 0) (pos 700)) ≡ values (record { latitude = pos 100; longitude = negℤ (pos 101); height = pos 430004 })
+  pub half-below-zero : correctionsOver slanted (at (pos 0) (pos 500)) ≡ values (record { latitude = pos 100; longitude = negℤ (pos 100) })
+  pub down-below-zero : correctionsOver slanted (at (pos 0) (pos 700)) ≡ values (record { latitude = pos 100; longitude = negℤ (pos 101) })
   -- Out (50, 500): 10.
   pub out-leaves : wayOut gridG (at (pos 50) (pos 500)) (pos 0) ≡ number 10
   -- Latitude corrections 0, 1000, 2000 by row, longitude corrections 0: out (1500, 500) gives 11; the check gives 12.
@@ -108,7 +109,10 @@ pub record Figures : Type 0 where
   pub written-below : writeNotation false (pos 16666665) ≡ values (record { degrees = 0; minutes = 0; fraction = 5999999; letter = 78 })
 
 pub figures : Figures
-unfolding gridG roundHalfUp u64At i32At i64At trailerOf plane question3 question4 boundsWithin question5 question6 judge opening cellOf partOf weighted bilinear valueAt onAxis inside nodePasses cellPasses question9 lookup question7 plus minus back settled iterate out convertOver convert every largest allPass stepNorth stepEast stepsOf slopePasses question12 findingsOf check gridCheck total readable magnitudeRead readNotation totalWritten split writeNotation
+unfolding gridG roundHalfUp u64At i32At i64At trailerOf plane question3 question4 boundsWithin question5 question6 judge opening cellOf
+    partOf weighted bilinear valueAt onAxis inside squarePasses question9 correctionLookup heightLookup question7 plus minus back settled
+    iterate out convertOver convert every largest allWithin allPass stepNorth stepEast stepsOf slopePasses question12 findingsOf check
+    gridCheck total readable magnitudeRead readNotation totalWritten split writeNotation
 figures =
     record {
       back-middle = refl;

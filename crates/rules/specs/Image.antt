@@ -1,4 +1,4 @@
--- Document 01, "Units and the image": little-endian numbers, the trailer, the geometry and its bounds, the nodes.
+-- Document 01, "Units and the image": little-endian numbers, the trailer, the geometry and its bounds, where the values lie, the grid.
 use mathlib.Core.Bool.{cond}
 use mathlib.Core.List.{List}
 use Prim.Native.Nat.{ℕ, _+_, _-_, _*_}
@@ -8,7 +8,9 @@ use lib.ListN.{length, getD}
 use Rattle.rules.specs.declared.Axis.{Axis}
 use Rattle.rules.specs.declared.Geometry.{Geometry}
 use Rattle.rules.specs.declared.Trailer.{Trailer}
-use Rattle.rules.specs.declared.Node.{Node}
+use Rattle.rules.specs.declared.Plane.{Plane}
+use Rattle.rules.specs.declared.Layout.{Layout}
+use Rattle.rules.specs.declared.Nodes.{Nodes}
 
 -- The unsigned numbers of four and of eight bytes, the lowest byte first, that begin at byte `at`.
 abbrev pub u32At : List ℕ → ℕ → ℕ
@@ -28,8 +30,8 @@ i32At b at = twosComplement 2147483648 (u32At b at)
 unfoldable pub i64At : List ℕ → ℕ → ℤ
 i64At b at = twosComplement 9223372036854775808 (u64At b at)
 
--- The trailer, the last 40 bytes: southern latitude at 0, western longitude at 8, latitude spacing at 16, longitude spacing at 20, rows at 24,
--- columns at 28, back at 32, edition at 36.
+-- The trailer, the last 40 bytes: southern latitude at 0, western longitude at 8, latitude spacing at 16, longitude spacing at 20, rows at
+-- 24, columns at 28, back at 32, edition at 36.
 unfoldable pub trailerOf : List ℕ → Trailer
 trailerOf b =
     let at = length b - 40 in
@@ -68,33 +70,44 @@ columns g = g .longitude .count
 abbrev pub backOf : Geometry → ℕ
 backOf g = 12 * rows g * columns g + 40
 
--- The byte where the first node begins.
-abbrev pub firstNode : List ℕ → Geometry → ℕ
-firstNode b g = length b - backOf g
+-- The layout of nodes of 12 bytes from byte `first` on: a node is latitude correction, longitude correction and quasi-geoid height, of four
+-- bytes each.
+abbrev pub nodesFrom : (first : ℕ) → Geometry → Layout
+nodesFrom first g =
+    record {
+      latitude = record { geometry = g; first = first; stride = 12 };
+      longitude = record { geometry = g; first = first + 4; stride = 12 };
+      height = record { geometry = g; first = first + 8; stride = 12 };
+    }
 
--- A plane of values: the i32 of row and column, where the first one begins at `first` and the next ones lie `stride` bytes apart, row after row.
-unfoldable pub plane : List ℕ → (first stride columns : ℕ) → ℕ → ℕ → ℤ
-plane b first stride columns row column = i32At b (first + stride * (row * columns + column))
+abbrev pub layoutFor : Nodes → Layout
+layoutFor n = nodesFrom (n .first) (n .geometry)
 
--- A grid: its geometry, and by row and column the latitude correction, the longitude correction and the quasi-geoid height. Row 0 is the
--- southern one, column 0 the western.
+-- The layout of an image of `size` bytes: the last node ends where the trailer begins.
+abbrev pub layoutOf : (size : ℕ) → Geometry → Layout
+layoutOf size g = nodesFrom (size - backOf g) g
+
+-- The values of a plane, by row and column.
+unfoldable pub plane : List ℕ → Plane → ℕ → ℕ → ℤ
+plane b p row column = i32At b (p .first + p .stride * (row * columns (p .geometry) + column))
+
+-- A grid, the content of an image: the geometry of the corrections and that of the quasi-geoid heights, and by row and column the latitude
+-- correction, the longitude correction and the height. Row 0 is the southern one, column 0 the western. In edition 1 both geometries are
+-- the trailer's.
 pub record Grid : Type 0 where
-  pub geometry : Geometry
+  pub corrections : Geometry
+  pub heights : Geometry
   pub latitude : ℕ → ℕ → ℤ
   pub longitude : ℕ → ℕ → ℤ
   pub height : ℕ → ℕ → ℤ
 
--- The grid of an image: a node is latitude correction, longitude correction and quasi-geoid height.
-abbrev pub gridOf : List ℕ → Geometry → Grid
-gridOf b g =
+-- The grid that an image has in a layout.
+abbrev pub gridOf : List ℕ → Layout → Grid
+gridOf b l =
     record {
-      geometry = g;
-      latitude = plane b (firstNode b g) 12 (columns g);
-      longitude = plane b (firstNode b g + 4) 12 (columns g);
-      height = plane b (firstNode b g + 8) 12 (columns g);
+      corrections = l .latitude .geometry;
+      heights = l .height .geometry;
+      latitude = plane b (l .latitude);
+      longitude = plane b (l .longitude);
+      height = plane b (l .height);
     }
-
--- The three values of one node.
-abbrev pub nodeAt : Grid → ℕ → ℕ → Node
-nodeAt g row column =
-    record { latitude = g .latitude row column; longitude = g .longitude row column; height = g .height row column }

@@ -8,15 +8,25 @@
 --     let x = a in t           t with x for a; `where` does the same from below
 --     record { x = a; … }      the record with these fields; in a `record … where` of claims, all of its lines hold
 --     A → B, (x : A) → C       from A to B; and as a claim: C for every x of A. {A : Type 0}: for every type A
---     Bool, ℕ, ℤ               true or false; the numbers from 0 up, `zero` and `suc n`, which is n + 1; all whole numbers, `pos n`, which is n,
---                              and `negsuc n`, which is −(n + 1)
+--     A × B, (x : A) × C       both A and B; an x of A for which C holds
+--     Bool, ℕ, ℤ               true or false; the numbers from 0 up, `zero` and `suc n`, which is n + 1; all whole numbers, `pos n`, which
+--                              is n, and `negsuc n`, which is −(n + 1)
 --     _+_ _-_ _*_ _/_ _%_      on ℕ: a - b is 0 where b is above a; a / b is rounded down, a % b is the remainder; `min` and `max`
 --     _+ℤ_ _-ℤ_ _*ℤ_ negℤ      on ℤ: sum, difference, product, negative; `natAbs`, the absolute value, in ℕ
 --     leb ltb eqb, leZ ltZ     the answer, true or false, to: at most, below, equal, on ℕ; at most, below, on ℤ
 --     _&&_ _||_ cond           and, or; `cond t a b` is a where t is true, else b
 --     [], x ∷ l, l ++ k        lists: none, x before l, l before k; `length`; `getD l i d`, element i, counted from 0, or d past the end
---     _≡_ _≤_ _≤ℤ_             claims: equal, at most; `refl` proves what computes to the same
+--     _≡_ _≤_ _≤ℤ_, ⊥          claims: equal, at most; the one that never holds; `refl` proves what computes to the same
 -- `abbrev`, `unfoldable` and `unfolding` say where the checker sees through a definition; they do not change what it is.
+--
+-- How to read a contract (crates/*/src/lib.rt). A clause is a claim between ⌜ and ⌝ about the function's parameters, each by its name, an
+-- unsigned one read as ℕ and a signed one as ℤ; a name with _ in it stands between « and ».
+--     requires { ⌜ A ⌝ }           what every caller is proved to meet; an entry point has none
+--     ensures { λ r. ⌜ A ⌝ }       what holds of the result r whenever the function returns, which it always does. Several clauses all
+--                                  hold; a word before { is a clause's name
+--     now s                        in a `requires`: the list of the slice's elements, or the number behind a reference
+--     now (s .entry), (s .exit)    in an `ensures`: the same when the function was called, and when it returned
+--     x .entry                     a record that holds a reference, as it was when the function was called
 pub mod Units
 pub mod Answers
 pub mod Image
@@ -29,4 +39,5 @@ pub mod Check
 pub mod Lists
 pub mod Notation
 pub mod Promise
+pub mod Trip
 pub mod Figures

@@ -1,20 +1,24 @@
 -- What the questions establish, as inequalities: what functions below the entry points require of their callers. That they follow from the
 -- questions' answers is proved (../proofs/Opening.antt, Limits.antt and Cells.antt there), so a reader need not believe them.
-use Prim.Native.Nat.{ℕ, _≤_}
+use mathlib.Core.Path.{_≡_}
+use Prim.Native.Nat.{ℕ, _+_, _*_, _≤_, _<_}
 use lib.IntN.{natAbs}
 use Rattle.rules.specs.declared.Axis.{Axis}
 use Rattle.rules.specs.declared.Geometry.{Geometry}
-use Rattle.rules.specs.declared.Node.{Node}
+use Rattle.rules.specs.declared.Plane.{Plane}
+use Rattle.rules.specs.declared.Layout.{Layout}
+use Rattle.rules.specs.declared.Square.{Square}
+use Rattle.rules.specs.declared.Correction.{Correction}
 use Rattle.rules.specs.declared.Point.{Point}
-use Rattle.rules.specs.Units.{degrees}
-use Rattle.rules.specs.Image.{farBound, backOf}
+use Rattle.rules.specs.Units.{latitudeLimit, longitudeLimit, countMost, spacingMost, correctionLimit}
+use Rattle.rules.specs.Image.{farBound, rows, columns}
 
 -- What questions 3 and 4 establish of an axis.
 pub record Sized (a : Axis) : Type 0 where
   pub count-least : 2 ≤ a .count
-  pub count-most : a .count ≤ 4096
+  pub count-most : a .count ≤ countMost
   pub spacing-least : 1 ≤ a .spacing
-  pub spacing-most : a .spacing ≤ 100000000
+  pub spacing-most : a .spacing ≤ spacingMost
 
 -- And 5, of its bounds.
 pub record AxisPasses (limit : ℕ) (a : Axis) : Type 0 where
@@ -22,19 +26,38 @@ pub record AxisPasses (limit : ℕ) (a : Axis) : Type 0 where
   pub start-within : natAbs (a .start) ≤ limit
   pub far-within : natAbs (farBound a) ≤ limit
 
--- What questions 3 to 6 establish of an image's length and geometry.
-pub record Open (size : ℕ) (g : Geometry) : Type 0 where
-  pub latitude : AxisPasses (degrees 90) (g .latitude)
-  pub longitude : AxisPasses (degrees 180) (g .longitude)
-  pub bytes : backOf g ≤ size
+-- The same of both axes.
+pub record GeometryPasses (g : Geometry) : Type 0 where
+  pub latitude : AxisPasses latitudeLimit (g .latitude)
+  pub longitude : AxisPasses longitudeLimit (g .longitude)
 
--- What question 7 establishes of a point, and question 8 too where the image is open.
+-- What questions 3 to 6 establish of a plane in an image of `size` bytes: of its geometry, and that the four bytes of each value are in the
+-- image.
+pub record InImage (size : ℕ) (p : Plane) : Type 0 where
+  pub geometry : GeometryPasses (p .geometry)
+  pub bytes : (row column : ℕ) → row < rows (p .geometry) → column < columns (p .geometry)
+      → p .first + p .stride * (row * columns (p .geometry) + column) + 4 ≤ size
+
+-- And of a layout: each plane is in the image, and all have one geometry.
+pub record Open (size : ℕ) (l : Layout) : Type 0 where
+  pub latitude : InImage size (l .latitude)
+  pub longitude : InImage size (l .longitude)
+  pub height : InImage size (l .height)
+  pub longitude-geometry : l .longitude .geometry ≡ l .latitude .geometry
+  pub height-geometry : l .height .geometry ≡ l .latitude .geometry
+
+-- What question 7 establishes of a point, and question 8 too where the geometry passes.
 pub record PointWithin (p : Point) : Type 0 where
-  pub latitude : natAbs (p .latitude) ≤ degrees 90
-  pub longitude : natAbs (p .longitude) ≤ degrees 180
+  pub latitude : natAbs (p .latitude) ≤ latitudeLimit
+  pub longitude : natAbs (p .longitude) ≤ longitudeLimit
 
--- What question 9 establishes of a node.
-pub record NodeWithin (n : Node) : Type 0 where
-  pub latitude : natAbs (n .latitude) ≤ 10000000
-  pub longitude : natAbs (n .longitude) ≤ 10000000
-  pub height : natAbs (n .height) ≤ 1000000
+-- What question 9 establishes of one value's corners, and of the corrections between them.
+pub record CornersWithin (limit : ℕ) (c : Square) : Type 0 where
+  pub southwest : natAbs (c .southwest) ≤ limit
+  pub southeast : natAbs (c .southeast) ≤ limit
+  pub northwest : natAbs (c .northwest) ≤ limit
+  pub northeast : natAbs (c .northeast) ≤ limit
+
+pub record CorrectionWithin (c : Correction) : Type 0 where
+  pub latitude : natAbs (c .latitude) ≤ correctionLimit
+  pub longitude : natAbs (c .longitude) ≤ correctionLimit

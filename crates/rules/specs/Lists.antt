@@ -9,7 +9,7 @@ use Rattle.rules.specs.declared.Point.{Point}
 use Rattle.rules.specs.declared.Position.{Position}
 use Rattle.rules.specs.declared.Way.{Way}
 use Rattle.rules.specs.declared.Way.the-variants as way
-use Rattle.rules.specs.Answers.{Outcome, values, number, ask, andThen}
+use Rattle.rules.specs.Answers.{Outcome, values, number, ask, andThen, after}
 use Rattle.rules.specs.Image.{gridOf}
 use Rattle.rules.specs.Questions.{opening}
 use Rattle.rules.specs.Ways.{convertOver, sourceOf}
@@ -34,12 +34,19 @@ question14 fixes answers = eqb fixes (3 * (fixes / 3)) && eqb answers (5 * (fixe
 -- A list call: the answer list, or the number with which it is left unchanged.
 unfoldable pub convertList : Way → List ℕ → (fixes answers : List ℤ) → Outcome (List ℤ)
 convertList w b fixes answers =
-    andThen (opening b) (λ g.
+    andThen (opening b) (λ l.
     ask (question14 (length fixes) (length answers)) 14
-    (values (answersOf (convertOver w (sourceOf (gridOf b g))) fixes)))
+    (values (answersOf (convertOver w (sourceOf (gridOf b l))) fixes)))
 
 abbrev pub listOut : List ℕ → (fixes answers : List ℤ) → Outcome (List ℤ)
 listOut = convertList way.Out
 
 abbrev pub listBack : List ℕ → (fixes answers : List ℤ) → Outcome (List ℤ)
 listBack = convertList way.Back
+
+-- What the answer list holds after a call.
+abbrev pub afterOut : List ℕ → (fixes answers : List ℤ) → List ℤ
+afterOut b fixes answers = after (listOut b fixes answers) answers
+
+abbrev pub afterBack : List ℕ → (fixes answers : List ℤ) → List ℤ
+afterBack b fixes answers = after (listBack b fixes answers) answers

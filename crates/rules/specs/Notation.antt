@@ -1,6 +1,7 @@
 -- Document 01, "Degrees, minutes, seconds", with question 13. Letters are the bytes N 78, S 83, E 69, W 87. In every definition `longitude`
 -- is the wanted axis: true for longitudes, false for latitudes.
 use mathlib.Core.Bool.{Bool, cond, _&&_, _||_}
+use mathlib.Core.List.{List, [], _∷_}
 use Prim.Native.Nat.{ℕ, _+_, _*_, _/_, _%_}
 use lib.Dec.{leb, ltb, eqb}
 use lib.IntN.{ℤ, pos, negℤ, natAbs}
@@ -53,6 +54,10 @@ readNotation longitude n =
     ask (readable longitude n) 13
     (values (cond (eqb (n .letter) (negativeLetter longitude)) (negℤ (pos (magnitudeRead (total n)))) (pos (magnitudeRead (total n)))))
 
+-- The same of the four parts, as a call over C has them.
+abbrev pub readParts : Bool → (degrees minutes fraction letter : ℕ) → Outcome ℤ
+readParts longitude d m f l = readNotation longitude (record { degrees = d; minutes = m; fraction = f; letter = l })
+
 -- The code's answer, in these terms.
 abbrev pub readingOf : Reading → Outcome ℤ
 readingOf (reading.Angle z) = values z
@@ -80,3 +85,9 @@ writeNotation longitude z =
 abbrev pub writingOf : Writing → Outcome Notation
 writingOf (writing.Written n) = values n
 writingOf (writing.Refused r) = number (numberOf r)
+
+-- What writing over C leaves in its lent array: degrees, minutes, hundred-thousandths of a second and the letter's byte, or with a number
+-- what was there before.
+abbrev pub notationAfter : Outcome Notation → List ℕ → List ℕ
+notationAfter (values n) before = n .degrees ∷ n .minutes ∷ n .fraction ∷ n .letter ∷ []
+notationAfter (number n) before = before

@@ -10,11 +10,11 @@ use Rattle.rules.specs.declared.Way.{Way}
 use Rattle.rules.specs.declared.Way.the-variants as way
 use Rattle.rules.specs.declared.Answer.{Answer}
 use Rattle.rules.specs.declared.Answer.the-variants as answer
-use Rattle.rules.specs.Units.{degrees, within}
+use Rattle.rules.specs.Units.{within, latitudeLimit, longitudeLimit, outHeightLimit, backHeightLimit, stopDistance, mostEvaluations}
 use Rattle.rules.specs.Answers.{Outcome, values, number, ask, andThen, numberOf}
 use Rattle.rules.specs.Image.{Grid, gridOf}
 use Rattle.rules.specs.Questions.{opening}
-use Rattle.rules.specs.Lookup.{inside, lookup}
+use Rattle.rules.specs.Lookup.{inside, correctionLookup, heightLookup}
 
 -- What a way asks of a grid: whether a point is in the bounds, and there its corrections and its quasi-geoid height, or a number.
 pub record Source : Type 0 where
@@ -24,7 +24,7 @@ pub record Source : Type 0 where
 
 -- 7. Are latitude and longitude within 90 and 180 degrees of zero, and the height within the way's limit?
 unfoldable pub question7 : ℕ → Point → ℤ → Bool
-question7 limit p h = within (degrees 90) (p .latitude) && (within (degrees 180) (p .longitude) && within limit h)
+question7 limit p h = within latitudeLimit (p .latitude) && (within longitudeLimit (p .longitude) && within limit h)
 
 -- A point plus, and a point minus, corrections.
 unfoldable pub plus : Point → Correction → Point
@@ -44,7 +44,7 @@ back s q H =
     andThen (s .height q) (λ z.
     values (position (plus q c) (H +ℤ z) 1)))
 
--- The stop rule: the latitudes of p and q, and their longitudes, each differ by at most `stop` nd; document 01's is 1.
+-- The stop rule: the latitudes of p and q, and their longitudes, each differ by at most `stop` nd.
 unfoldable pub settled : ℕ → Point → Point → Bool
 settled stop p q = within stop (p .latitude -ℤ q .latitude) && within stop (p .longitude -ℤ q .longitude)
 
@@ -68,14 +68,14 @@ iterate s stop p (suc left) n r =
 -- and n, which does not count the height lookup.
 unfoldable pub out : Source → Point → ℤ → Outcome Position
 out s p h =
-    andThen (iterate s 1 p 5 0 p) (λ e.
+    andThen (iterate s stopDistance p mostEvaluations 0 p) (λ e.
     andThen (s .height (e .point)) (λ z.
     values (position (e .point) (h -ℤ z) (e .count))))
 
 -- Each way's limit on heights, and what it makes of a point in the bounds.
 abbrev pub heightLimit : Way → ℕ
-heightLimit way.Out = 100000000
-heightLimit way.Back = 110000000
+heightLimit way.Out = outHeightLimit
+heightLimit way.Back = backHeightLimit
 
 abbrev pub wayOf : Way → Source → Point → ℤ → Outcome Position
 wayOf way.Out = out
@@ -85,18 +85,13 @@ wayOf way.Back = back
 unfoldable pub convertOver : Way → Source → Point → ℤ → Outcome Position
 convertOver w s p h = ask (question7 (heightLimit w) p h) 7 (ask (s .inside p) 8 (wayOf w s p h))
 
--- A grid's answers: question 8's bounds, and one lookup that gives the corrections and the height.
+-- A grid's answers: question 8's bounds are those of the corrections.
 abbrev pub sourceOf : Grid → Source
-sourceOf g =
-    record {
-      inside = inside (g .geometry);
-      corrections = λ q. andThen (lookup g q) (λ n. values (record { latitude = n .latitude; longitude = n .longitude }));
-      height = λ q. andThen (lookup g q) (λ n. values (n .height));
-    }
+sourceOf g = record { inside = inside (g .corrections); corrections = correctionLookup g; height = heightLookup g }
 
 -- A conversion over an image: questions 1 to 6 first.
 unfoldable pub convert : Way → List ℕ → Point → ℤ → Outcome Position
-convert w b p h = andThen (opening b) (λ g. convertOver w (sourceOf (gridOf b g)) p h)
+convert w b p h = andThen (opening b) (λ l. convertOver w (sourceOf (gridOf b l)) p h)
 
 abbrev pub wayOut : List ℕ → Point → ℤ → Outcome Position
 wayOut = convert way.Out

@@ -1,4 +1,30 @@
-// The types that document 01's rules speak of. The rules are in specs/, by document 01's sections; there is no code here.
+// The types that document 01's rules speak of, and its limits as the code names them (specs/Units.antt has them for the rules). The rules
+// are in specs/, by document 01's sections; there is no function here.
+
+// Latitudes and longitudes are within 90 and 180 degrees of zero.
+pub const LATITUDE_LIMIT: u64 = 90_000_000_000;
+
+pub const LONGITUDE_LIMIT: u64 = 180_000_000_000;
+
+// Question 3: at most so many rows and columns. Question 4: the largest spacing, in nd.
+pub const COUNT_MOST: u64 = 4096;
+
+pub const SPACING_MOST: u64 = 100_000_000;
+
+// Question 7: the height of a fix going out and going back, in units.
+pub const OUT_HEIGHT_LIMIT: u64 = 100_000_000;
+
+pub const BACK_HEIGHT_LIMIT: u64 = 110_000_000;
+
+// Question 9: a correction in nd, a quasi-geoid height in units.
+pub const CORRECTION_LIMIT: u64 = 10_000_000;
+
+pub const QUASI_GEOID_LIMIT: u64 = 1_000_000;
+
+// The way out: the stop rule's distance in nd, and the most evaluations.
+pub const STOP_DISTANCE: u64 = 1;
+
+pub const MOST_EVALUATIONS: u64 = 5;
 
 // One axis of a grid: the southern or western bound in nd, the spacing in nd, and the count of rows or columns.
 pub struct Axis {
@@ -20,6 +46,35 @@ pub struct Trailer {
     pub edition: u64,
 }
 
+// A plane of values in an image: a value for each node of a geometry. That of the first node is the i32 at byte `first`; the others follow
+// it, row after row, each `stride` bytes after the one before.
+pub struct Plane {
+    pub geometry: Geometry,
+    pub first: u64,
+    pub stride: u64,
+}
+
+// Where an opened image has its values: the planes of latitude corrections, of longitude corrections and of quasi-geoid heights.
+pub struct Layout {
+    pub latitude: Plane,
+    pub longitude: Plane,
+    pub height: Plane,
+}
+
+// Values that follow each other in an image, those of a plane or of a row of it: the byte where the first begins, and how many bytes after
+// it the next one does.
+pub struct Run {
+    pub first: u64,
+    pub stride: u64,
+}
+
+// The same in each of the three planes.
+pub struct Runs {
+    pub latitude: Run,
+    pub longitude: Run,
+    pub height: Run,
+}
+
 // A point in nd: ETRS89 or Bessel, as its use says.
 pub struct Point {
     pub latitude: i64,
@@ -32,11 +87,12 @@ pub struct Correction {
     pub longitude: i64,
 }
 
-// The three values of a node, or of a lookup between nodes: latitude and longitude correction in nd, quasi-geoid height in units.
-pub struct Node {
-    pub latitude: i64,
-    pub longitude: i64,
-    pub height: i64,
+// One value at the four corners of a cell.
+pub struct Square {
+    pub southwest: i64,
+    pub southeast: i64,
+    pub northwest: i64,
+    pub northeast: i64,
 }
 
 // The two ways of a conversion: out, from ETRS89 to Bessel and NAP, and back.
@@ -55,8 +111,8 @@ pub struct Position {
 
 // The largest absolute steps of one value between neighbours: document 01's A in latitude, B in longitude.
 pub struct Steps {
-    pub north: u64,
-    pub east: u64,
+    pub northward: u64,
+    pub eastward: u64,
 }
 
 // What a passed grid check reports of the three values.
@@ -92,15 +148,22 @@ pub enum Refusal {
     ListLengths,
 }
 
+// Where the nodes of an opened image lie: their geometry, and the byte where the first one begins. It stands for the layout of their
+// planes.
+pub struct Nodes {
+    pub geometry: Geometry,
+    pub first: u64,
+}
+
 // What opening an image answers.
 pub enum Opened {
-    Grid(Geometry),
+    Nodes(Nodes),
     Refused(Refusal),
 }
 
-// What a lookup at a point answers.
-pub enum Lookup {
-    Found(Node),
+// What the lookup of the quasi-geoid height at a point answers.
+pub enum HeightLookup {
+    Height(i64),
     Refused(Refusal),
 }
 
@@ -125,5 +188,17 @@ pub enum Reading {
 // What writing an angle answers.
 pub enum Writing {
     Written(Notation),
+    Refused(Refusal),
+}
+
+// The way out's answer of a trip, and what it gives when it is taken back.
+pub struct Trip {
+    pub outward: Position,
+    pub returned: Position,
+}
+
+// What a trip answers.
+pub enum TripAnswer {
+    Returned(Trip),
     Refused(Refusal),
 }

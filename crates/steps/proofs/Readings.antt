@@ -1,4 +1,4 @@
--- The values of a node that is read from bytes have 32 bits.
+-- The values that are read from bytes have 32 bits.
 use mathlib.Core.Bool.{Bool, true, false, cond}
 use mathlib.Core.List.{List}
 use mathlib.Core.Path.{_≡_, refl}
@@ -13,22 +13,29 @@ use mir.Val.{Fits}
 use Rattle.integers.specs.Difference.{lit, _⊖_}
 use Rattle.integers.specs.Distance.{abs-is}
 use Rattle.rules.specs.Image.{twosComplement, u32At, i32At}
-use Rattle.nodes.specs.Cell.{nodeOf}
-use Rattle.steps.specs.Walk.{Narrow}
+use Rattle.rules.specs.declared.Run.{Run}
+use Rattle.rules.specs.declared.Runs.{Runs}
+use Rattle.steps.specs.Walk.{runValue, nodeOf, Narrow, NarrowNode}
 
-twos-narrow : (n : ℕ) → n < 4294967296 → natAbs (twosComplement 2147483648 n) ≤ 2147483648
+twos-narrow : (n : ℕ) → n < 4294967296 → Narrow (twosComplement 2147483648 n)
 twos-narrow n h = by (ltb n 2147483648) refl
   where
     by : (b : Bool) → ltb n 2147483648 ≡ b → natAbs (cond b (pos n) (pos n -ℤ pos 4294967296)) ≤ 2147483648
     by true e = omega (arith, ltb-true n 2147483648 e)
     by false e = omega (arith, ltb-false n 2147483648 e, abs-is (lit n ⊖ lit 4294967296))
 
-module _ (row : List ℕ) (bytes : (i : ℕ) → Fits w8 (getD row i 0)) where
-  i32-narrow : (at : ℕ) → natAbs (i32At row at) ≤ 2147483648
-  unfolding i32At
-  i32-narrow at = twos-narrow (u32At row at) (omega (arith, bytes at, bytes (at + 1), bytes (at + 2), bytes (at + 3)))
+module _ (b : List ℕ) (bytes : (i : ℕ) → Fits w8 (getD b i 0)) where
+  value-narrow : (run : Run) (column : ℕ) → Narrow (runValue b run column)
+  unfolding runValue i32At
+  value-narrow run column =
+      let at = run .first + run .stride * column in
+      twos-narrow (u32At b at) (omega (arith, bytes at, bytes (at + 1), bytes (at + 2), bytes (at + 3)))
 
-  pub node-narrow : (column : ℕ) → Narrow (nodeOf row column)
+  pub node-narrow : (row : Runs) (column : ℕ) → NarrowNode (nodeOf b row column)
   unfolding nodeOf
-  node-narrow column =
-      record { latitude = i32-narrow (12 * column); longitude = i32-narrow (12 * column + 4); height = i32-narrow (12 * column + 8) }
+  node-narrow row column =
+      record {
+        latitude = value-narrow (row .latitude) column;
+        longitude = value-narrow (row .longitude) column;
+        height = value-narrow (row .height) column;
+      }

@@ -3,38 +3,19 @@ use rules::Answer;
 use rules::Checked;
 use rules::Point;
 use rules::Position;
-use rules::Refusal;
+use rules::Trip;
+use rules::TripAnswer;
 use rules::Way;
 use slopes::grid_check;
 use ways::convert;
 ghost use mathlib.Core.Path.{_≡_};
-ghost use Prim.Native.Nat.{_≤_};
-ghost use lib.IntN.{natAbs};
-ghost use Rattle.rules.specs.declared.Geometry.{Geometry};
-ghost use Rattle.rules.specs.declared.Findings.{Findings};
-ghost use Rattle.rules.specs.Answers.{values};
-ghost use Rattle.rules.specs.Questions.{opening};
-ghost use Rattle.rules.specs.Check.{gridCheck};
-ghost use Rattle.rules.specs.Promise.{Inside};
-ghost use Rattle.trip.specs.Trip as rule;
-
-// The way out's answer, and what it gives when it is taken back.
-pub struct Trip {
-    pub outward: Position,
-    pub returned: Position,
-}
-
-// What a trip answers.
-pub enum TripAnswer {
-    Returned(Trip),
-    Refused(Refusal),
-}
+ghost use Rattle.rules.specs.Trip as rule;
 
 // A trip over any image. Where the image passes the check, the fix is at least 10,000,000 nd inside and its height in limits,
 // the trip returns, as the return promise says.
 pub fn round_trip(image: &[u8], p: Point, height: i64) -> TripAnswer
     ensures values { λ r. ⌜ rule.tripOf r ≡ rule.trip (now (image .entry)) p height ⌝ }
-    ensures promise { λ r. ⌜ ((g : Geometry) (f : Findings) → opening (now (image .entry)) ≡ values g → gridCheck (now (image .entry)) ≡ values f → Inside 10000000 g p → natAbs height ≤ 100000000 → rule.Keeps (now (image .entry)) p height r) ⌝ }
+    ensures promise { λ r. ⌜ rule.KeepsWhere (now (image .entry)) p height r ⌝ }
 {
     match grid_check(image) {
         Checked::Passed(_) => out_and_back(image, p, height),
@@ -44,7 +25,7 @@ pub fn round_trip(image: &[u8], p: Point, height: i64) -> TripAnswer
 
 // The trip without the check.
 fn out_and_back(image: &[u8], p: Point, height: i64) -> TripAnswer
-    ensures { λ r. ⌜ rule.tripOf r ≡ rule.outAndBack (now (image .entry)) p height ⌝ }
+    ensures { λ r. ⌜ rule.tripOf r ≡ rule.outThenBack (now (image .entry)) p height ⌝ }
 {
     match convert(Way::Out, image, p, height) {
         Answer::Values(a) => taken_back(image, a),
@@ -54,7 +35,7 @@ fn out_and_back(image: &[u8], p: Point, height: i64) -> TripAnswer
 
 // The way back of what the way out answered.
 fn taken_back(image: &[u8], outward: Position) -> TripAnswer
-    ensures { λ r. ⌜ rule.tripOf r ≡ rule.returnOf (now (image .entry)) outward ⌝ }
+    ensures { λ r. ⌜ rule.tripOf r ≡ rule.takenBack (now (image .entry)) outward ⌝ }
 {
     let latitude = outward.latitude;
     let longitude = outward.longitude;

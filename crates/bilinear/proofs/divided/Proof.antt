@@ -1,67 +1,47 @@
--- `bilinear::divided` meets its contract. All fits, since p × q is at most 10^16 and what the divisions leave is at most twice that.
-use mathlib.Core.Path.{ap, _∙_}
-use Prim.Native.Nat.{ℕ, _+_, _*_, _/_, _%_}
+-- `bilinear::divided` meets its contract: where the test holds, the latitude spacing times the larger row is below 2^20 × 2^44.
+use Prim.Native.Nat.{_+_, _*_, _/_, _≤_}
+use native.Mathlib.Nat.{mul-le-mul, mul-le-mul-left}
 use native.Mathlib.Omega.{arith}
-use Rattle.bilinear.proofs.Rounding.{mixable, Small, small, south-row, north-row, south-left, north-left, quotient-is, quotient-most}
 use borrow.Author.Needs.{needs}
+use Rattle.bilinear.proofs.Mixes.{area-least, area-most}
 use Rattle.bilinear.proofs.divided.Statement.{statement}
 use Rattle.bilinear.proofs.divided.Tie as tie
 
-bounds : (c : tie.After-mix2) → Small (c .before .before .args .p) (c .before .before .args .q) (c .before .mix .result) (c .mix2 .result)
-bounds c = small (c .before .before .pre) (c .before .mix .ensures) (c .mix2 .ensures)
+mul-if1 : tie.Need-mul-if1
+mul-if1 c =
+    let few : c .larger .result / 1048576 + 1 ≤ 2000000000 = omega arith in
+    omega (arith, mul-le-mul (c .before .pre .latitude-spacing .most) few)
+
+mul-area : tie.Need-mul-area
+mul-area c = let r = c .before .before .pre in omega (arith, area-most (r .latitude-spacing) (r .longitude-spacing))
 
 mix-requires : tie.Need-mix-requires
 mix-requires c κs =
-    let r = c .pre in
-    let south = south-row r in
-    let north = north-row r in
-    mixable (r .north) (r .latitude-spacing .most) (omega arith) (omega arith)
+    let start = c .before .before in
+    let m = c .before .larger .result in
+    let up : m + 1 ≤ 1048576 * (m / 1048576 + 1) = omega arith in
+    record {
+      part = start .pre .u-most;
+      fits = rw (← c .before .larger .ensures) (omega (arith, mul-le-mul-left (start .args .latitude-spacing) up));
+    }
 
-mix-requires-2 : tie.Need-mix-requires-2
-mix-requires-2 c κs =
-    let r = c .before .pre in
-    let south = south-left r in
-    let north = north-left r in
-    mixable (r .north) (r .latitude-spacing .most) (omega arith) (omega arith)
-
-mul-rest : tie.Need-mul-rest
-mul-rest c = omega (arith, bounds c)
-
-add-rest : tie.Need-add-rest
-add-rest c = omega (arith, bounds c)
-
-mul-rounded : tie.Need-mul-rounded
-mul-rounded c = omega (arith, bounds c)
-
-rounded-requires : tie.Need-rounded-requires
-rounded-requires c κs = let b = bounds c in (b .area-least, b .area-most, b .rest-most)
-
-add-result : tie.Need-add-result
-add-result c = let s = c .before .before .before .args in
-    let b = bounds (c .before) in
-    omega (arith, c .rounded .ensures, quotient-most (c .before .before .mix .result % s .p * s .q + c .before .mix2 .result) (s .p * s .q) (b .area-least) (b .rest-most))
+div-t13 : tie.Need-div-t13
+div-t13 c = let r = c .before .before .before .pre in area-least (r .latitude-spacing) (r .longitude-spacing)
 
 returns : tie.Need-returns
-returns c = let s = c .before .before .before .args in
-    let t = c .before .before .mix in
-    ap (λ (x : ℕ). t .result / s .p + x) (c .rounded .ensures)
-    ∙ quotient-is (s .s) (s .n) (s .u) (s .p) (s .q) (t .result) (c .before .mix2 .result) (t .ensures) (c .before .mix2 .ensures) (bounds (c .before) .area-least)
+returns c = rw (c .mix .ensures)
 
 pub divided-spec : {M : Type 1} → statement M
 divided-spec =
     tie.close
     (tie.spec
+    (λ c κs. search needs)
     (λ c. search needs)
-    (λ c. search needs)
+    mul-if1
+    mul-area
     mix-requires
-    (λ c. search needs)
-    (λ c. search needs)
-    mix-requires-2
-    (λ c. search needs)
-    mul-rest
-    add-rest
-    (λ c. search needs)
-    mul-rounded
-    rounded-requires
-    add-result
-    returns)
+    div-t13
+    div-t13
+    returns
+    (λ c κs. search needs)
+    (λ c. search needs))

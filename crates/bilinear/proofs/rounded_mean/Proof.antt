@@ -1,64 +1,39 @@
--- `bilinear::rounded_mean` meets its contract: where the test holds, p times the larger mix is at most 17,585,000,000,000 × 2^20.
-use native.Mathlib.Nat.{mul-le-mul, mul-le-mul-left}
+-- `bilinear::rounded_mean` meets its contract: quotient and remainder of the mix of both rows make up that mix.
 use native.Mathlib.Omega.{arith}
-use Prim.Native.Nat.{_+_, _*_, _/_, _≤_}
-use borrow.Author.Needs.{needs}
-use Rattle.bilinear.specs.Mean.{Rows}
-use Rattle.bilinear.proofs.Rounding.{mixable, mix-le}
+use Rattle.bilinear.specs.Mean.{mix, RowMixes}
+use Rattle.bilinear.proofs.Mixes.{mixable, row-mixes, area-most, divided-most, mean-is}
 use Rattle.bilinear.proofs.rounded_mean.Statement.{statement}
 use Rattle.bilinear.proofs.rounded_mean.Tie as tie
 
 mix-requires : tie.Need-mix-requires
-mix-requires c κs = let cell = c .pre .1 in mixable (cell .east) (cell .longitude-spacing .most) (omega arith) (omega arith)
+mix-requires c κs = let cell = c .pre .1 in mixable (cell .v-most) (cell .longitude-spacing .most) (omega arith) (omega arith)
 
 mix-requires-2 : tie.Need-mix-requires-2
-mix-requires-2 c κs = let cell = c .before .pre .1 in mixable (cell .east) (cell .longitude-spacing .most) (omega arith) (omega arith)
+mix-requires-2 c κs = let cell = c .before .pre .1 in mixable (cell .v-most) (cell .longitude-spacing .most) (omega arith) (omega arith)
 
-rows : (c : tie.After-mix2) → let s = c .before .before .args in Rows (c .before .mix .result) (c .mix2 .result) (s .u) (s .p) (s .q)
-rows c =
-    let most = c .before .before .pre .0 in
-    let cell = c .before .before .pre .1 in
-    omega
-    (arith, mix-le 20000000 (cell .east) (most .southwest) (most .southeast), mix-le 20000000 (cell .east) (most .northwest) (most .northeast))
-
-mul-if1 : tie.Need-mul-if1
-mul-if1 c =
-    let r = rows (c .before) in
-    let few : c .larger .result / 1048576 + 1 ≤ 2000000000 = omega arith in
-    omega (arith, mul-le-mul (r .latitude-spacing .most) few)
-
-divided-at-once-requires : tie.Need-divided-at-once-requires
-divided-at-once-requires c κs =
-    let r = rows (c .before .before) in
-    let m = c .before .larger .result in
-    let up : m ≤ 1048576 * (m / 1048576 + 1) = omega arith in (
-      record {
-        part = r .north;
-        most = rw (← c .before .larger .ensures) (omega (arith, mul-le-mul-left (c .before .before .before .before .args .p) up));
-      },
-      r .latitude-spacing,
-      r .longitude-spacing,
-    )
-
-returns : tie.Need-returns
-returns c = cc
+rows : (c : tie.After-mix2) → let a = c .before .before .args in
+    RowMixes (c .before .mix .result) (c .mix2 .result) (a .u) (a .latitude-spacing) (a .longitude-spacing)
+rows c = let pre = c .before .before .pre in rw (c .before .mix .ensures, c .mix2 .ensures) (row-mixes (pre .1) (pre .0))
 
 divided-requires : tie.Need-divided-requires
-divided-requires c κs = rows (c .before .before)
+divided-requires c κs = rows c
 
-returns-2 : tie.Need-returns-2
-returns-2 c = cc
+mul-rounded : tie.Need-mul-rounded
+mul-rounded c = let cell = c .before .before .before .pre .1 in omega (arith, area-most (cell .latitude-spacing) (cell .longitude-spacing))
+
+rounded-requires : tie.Need-rounded-requires
+rounded-requires c κs = rw (c .divided .ensures) (divided-most (rows (c .before)))
+
+returns : tie.Need-returns
+returns c =
+    let d = c .before in
+    let n = d .before in
+    let s = n .before in
+    let a = s .before .args in
+    mean-is (a .sw) (a .se) (a .nw) (a .ne) (a .u) (a .v) (a .latitude-spacing) (a .longitude-spacing)
+    (s .mix .ensures) (n .mix2 .ensures) (d .divided .ensures) (c .rounded .ensures)
 
 pub rounded-mean-spec : {M : Type 1} → statement M
 rounded-mean-spec =
     tie.close
-    (tie.spec
-    mix-requires
-    mix-requires-2
-    (λ c κs. search needs)
-    (λ c. search needs)
-    mul-if1
-    divided-at-once-requires
-    returns
-    divided-requires
-    returns-2)
+    (tie.spec mix-requires mix-requires-2 divided-requires mul-rounded rounded-requires returns)

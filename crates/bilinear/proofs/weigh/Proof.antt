@@ -1,87 +1,112 @@
--- `bilinear::weigh` meets its contract: the value lies above the least corner by the mean of what lies above it at the corners.
-use mathlib.Core.Path.{_≡_, sym, ap, _∙_}
-use Prim.Native.Nat.{_≤_}
+-- `bilinear::weigh` meets its contract: the value lies above the least corner by the mean of the corners' gaps.
+use mathlib.Core.Path.{_≡_, sym, _∙_}
+use Prim.Native.Nat.{ℕ, _*_, _≤_}
 use native.Mathlib.Omega.{arith}
 use lib.IntN.{ℤ, pos, natAbs, _+ℤ_}
 use lib.Signed.{_≤ℤ_}
 use mir.Syntax.{w64}
 use mir.Val.{toZ, ofZ}
 use Rattle.integers.specs.Machine.{told}
+use Rattle.rules.specs.declared.Square.{Square}
+use Rattle.rules.specs.Units.{correctionLimit}
+use Rattle.rules.specs.Limits.{CornersWithin}
 use Rattle.rules.specs.Bilinear.{squareOf}
 use Rattle.bilinear.specs.Mean.{leastOf, Below}
-use Rattle.bilinear.proofs.Rounding.{cell-area, mean-le}
-use Rattle.bilinear.proofs.Raising.{Raised, raised-value, under, gaps-most, read-corner}
+use Rattle.bilinear.proofs.Gaps.{Gaps, Under, under, read-corner, gaps-most, mean-most, value-above}
 use borrow.Author.Needs.{needs}
 use Rattle.bilinear.proofs.weigh.Statement.{statement}
 use Rattle.bilinear.proofs.weigh.Tie as tie
 
-least : (c : tie.After-least-of) → toZ w64 (ofZ w64 (c .least-of .result)) ≡ leastOf (squareOf (c .before .args .t1))
-least c = told w64 (c .least-of .ok) (c .least-of .ensures)
+-- The corners, the least of them as the machine reads it back, and what holds of each corner beside it.
+abbrev square : tie.After-least-of → Square
+square l = squareOf (l .before .args .t1)
 
-above-asked : {l l' x x' : ℤ} → l' ≡ l → x' ≡ x → natAbs l ≤ 10000000 → natAbs x ≤ 10000000 → l ≤ℤ x → (natAbs l' ≤ 10000000) × (natAbs x' ≤ 10000000) × (l' ≤ℤ x')
-above-asked e f h k m = rw (e, f) (h, k, m)
+abbrev least-read : tie.After-least-of → ℤ
+least-read l = toZ w64 (ofZ w64 (l .least-of .result))
 
-above-requires : tie.Need-above-requires
-above-requires c κs = let l = c .before in
-    let w = l .before .pre .0 in
-    above-asked (least l) (read-corner (squareOf (l .before .args .t1) .southwest) (w .southwest)) (under w .near) (w .southwest) (under w .southwest)
+abbrev within : (l : tie.After-least-of) → CornersWithin correctionLimit (square l)
+within l = l .before .pre .0
 
-above-requires-2 : tie.Need-above-requires-2
-above-requires-2 c κs = let l = c .before .before .before in
-    let w = l .before .pre .0 in
-    above-asked (least l) (read-corner (squareOf (l .before .args .t1) .southeast) (w .southeast)) (under w .near) (w .southeast) (under w .southeast)
+least : (l : tie.After-least-of) → least-read l ≡ leastOf (square l)
+least l = told w64 (l .least-of .ok) (l .least-of .ensures)
 
-above-requires-3 : tie.Need-above-requires-3
-above-requires-3 c κs = let l = c .before .before .before .before .before in
-    let w = l .before .pre .0 in
-    above-asked (least l) (read-corner (squareOf (l .before .args .t1) .northwest) (w .northwest)) (under w .near) (w .northwest) (under w .northwest)
+least-under : (l : tie.After-least-of) → Under correctionLimit (leastOf (square l)) (square l)
+least-under l = under (within l)
 
-above-requires-4 : tie.Need-above-requires-4
-above-requires-4 c κs = let l = c .before .before .before .before .before .before .before in
-    let w = l .before .pre .0 in
-    above-asked (least l) (read-corner (squareOf (l .before .args .t1) .northeast) (w .northeast)) (under w .near) (w .northeast) (under w .northeast)
+module _ (l : tie.After-least-of) (x : ℤ) (near : natAbs x ≤ correctionLimit) where
+  asked : leastOf (square l) ≤ℤ x
+      → (natAbs (least-read l) ≤ correctionLimit) × (natAbs (toZ w64 (ofZ w64 x)) ≤ correctionLimit) × (least-read l ≤ℤ toZ w64 (ofZ w64 x))
+  asked below = rw (least l, read-corner x near) (least-under l .near, near, below)
 
--- how far each corner lies above the least one
-gaps : (c : tie.After-above4) → let l = c .before .before .before .before .before .before .before .before in
-    let sq = squareOf (l .before .args .t1) in
-    Raised (leastOf sq) sq (c .before .before .before .before .before .before .above .result) (c .before .before .before .before .above2 .result) (c .before .before .above3 .result) (c .above4 .result)
+  gap-is : (n : ℕ) → toZ w64 (ofZ w64 x) ≡ least-read l +ℤ pos n → x ≡ leastOf (square l) +ℤ pos n
+  gap-is n e = rw (read-corner x near, least l) at e
+
+gap-requires : tie.Need-gap-requires
+gap-requires c κs =
+    let l = c .before in
+    asked l (square l .southwest) (within l .southwest) (least-under l .southwest)
+
+gap-requires-2 : tie.Need-gap-requires-2
+gap-requires-2 c κs =
+    let l = c .before .before .before in
+    asked l (square l .southeast) (within l .southeast) (least-under l .southeast)
+
+gap-requires-3 : tie.Need-gap-requires-3
+gap-requires-3 c κs =
+    let l = c .before .before .before .before .before in
+    asked l (square l .northwest) (within l .northwest) (least-under l .northwest)
+
+gap-requires-4 : tie.Need-gap-requires-4
+gap-requires-4 c κs =
+    let l = c .before .before .before .before .before .before .before in
+    asked l (square l .northeast) (within l .northeast) (least-under l .northeast)
+
+-- The place after the least corner, and the gaps of the four corners.
+abbrev least-at : tie.After-gap4 → tie.After-least-of
+least-at c = c .before .before .before .before .before .before .before .before
+
+abbrev sw-at : tie.After-gap4 → tie.After-gap
+sw-at c = c .before .before .before .before .before .before
+
+abbrev se-at : tie.After-gap4 → tie.After-gap2
+se-at c = c .before .before .before .before
+
+abbrev nw-at : tie.After-gap4 → tie.After-gap3
+nw-at c = c .before .before
+
+gaps : (c : tie.After-gap4) → let sq = square (least-at c) in
+    Gaps (leastOf sq) sq (sw-at c .gap .result) (se-at c .gap2 .result) (nw-at c .gap3 .result) (c .gap4 .result)
 gaps c =
-    let a = c .before .before .before .before .before .before in
-    let b = c .before .before .before .before in
-    let d = c .before .before in
-    let l = a .before .before in
-    let w = l .before .pre .0 in
-    let sq = squareOf (l .before .args .t1) in
+    let l = least-at c in
+    let sq = square l in
+    let w = within l in
     record {
-      southwest-is = sym (read-corner (sq .southwest) (w .southwest)) ∙ a .above .ensures ∙ ap (λ (y : ℤ). y +ℤ pos (a .above .result)) (least l);
-      southeast-is = sym (read-corner (sq .southeast) (w .southeast)) ∙ b .above2 .ensures ∙ ap (λ (y : ℤ). y +ℤ pos (b .above2 .result)) (least l);
-      northwest-is = sym (read-corner (sq .northwest) (w .northwest)) ∙ d .above3 .ensures ∙ ap (λ (y : ℤ). y +ℤ pos (d .above3 .result)) (least l);
-      northeast-is = sym (read-corner (sq .northeast) (w .northeast)) ∙ c .above4 .ensures ∙ ap (λ (y : ℤ). y +ℤ pos (c .above4 .result)) (least l);
+      southwest = gap-is l (sq .southwest) (w .southwest) _ (sw-at c .gap .ensures);
+      southeast = gap-is l (sq .southeast) (w .southeast) _ (se-at c .gap2 .ensures);
+      northwest = gap-is l (sq .northwest) (w .northwest) _ (nw-at c .gap3 .ensures);
+      northeast = gap-is l (sq .northeast) (w .northeast) _ (c .gap4 .ensures);
     }
 
-below : (c : tie.After-above4) → Below 20000000 (c .before .before .before .before .before .before .above .result) (c .before .before .before .before .above2 .result) (c .before .before .above3 .result) (c .above4 .result)
-below c = let s = c .before .before .before .before .before .before .before .before .before in gaps-most (leastOf (squareOf (s .args .t1))) (under (s .pre .0) .near) (s .pre .0) (gaps c)
+below : (c : tie.After-gap4)
+    → Below (2 * correctionLimit) (sw-at c .gap .result) (se-at c .gap2 .result) (nw-at c .gap3 .result) (c .gap4 .result)
+below c = let l = least-at c in gaps-most (leastOf (square l)) (least-under l .near) (within l) (gaps c)
 
 rounded-mean-requires : tie.Need-rounded-mean-requires
-rounded-mean-requires c κs = (below c, c .before .before .before .before .before .before .before .before .before .pre .1)
+rounded-mean-requires c κs = (below c, least-at c .before .pre .1)
 
-raised-requires : tie.Need-raised-requires
-raised-requires c κs =
-    let l = c .before .before .before .before .before .before .before .before .before in
-    let b = below (c .before) in
-    let cell = l .before .pre .1 in
-    let near : natAbs (toZ w64 (ofZ w64 (l .least-of .result))) ≤ 10000000 = rw (least l) (under (l .before .pre .0) .near) in (
-      omega (arith, near),
-      rw (c .rounded-mean .ensures) (mean-le (cell .north) (cell .east) (cell-area cell) 20000000 (b .southwest) (b .southeast) (b .northwest) (b .northeast)),
-    )
+above-least-requires : tie.Need-above-least-requires
+above-least-requires c κs =
+    let l = least-at (c .before) in
+    let near : natAbs (least-read l) ≤ correctionLimit = rw (least l) (least-under l .near) in
+    (omega (arith, near), mean-most (l .before .pre .1) (below (c .before)) (c .rounded-mean .ensures))
 
 returns : tie.Need-returns
 returns c =
     let m = c .before in
-    let l = m .before .before .before .before .before .before .before .before .before in
-    let cell = l .before .pre .1 in
-    told w64 (c .raised .ok) (c .raised .ensures) ∙ (λ i. least l i +ℤ pos (m .rounded-mean .ensures i))
-    ∙ sym (raised-value (cell .north) (cell .east) (cell-area cell) (gaps (m .before)))
+    let l = least-at (m .before) in
+    told w64 (c .above-least .ok) (c .above-least .ensures)
+    ∙ (λ i. least l i +ℤ pos (m .rounded-mean .result))
+    ∙ sym (value-above (l .before .pre .1) (gaps (m .before)) (m .rounded-mean .ensures))
 
 pub weigh-spec : {M : Type 1} → statement M
 weigh-spec =
@@ -90,16 +115,16 @@ weigh-spec =
     (λ c κs. search needs)
     (λ c. search needs)
     (λ c. search needs)
-    above-requires
+    gap-requires
     (λ c. search needs)
     (λ c. search needs)
-    above-requires-2
+    gap-requires-2
     (λ c. search needs)
     (λ c. search needs)
-    above-requires-3
+    gap-requires-3
     (λ c. search needs)
     (λ c. search needs)
-    above-requires-4
+    gap-requires-4
     rounded-mean-requires
-    raised-requires
+    above-least-requires
     returns)

@@ -5,7 +5,7 @@ use native.Mathlib.Omega.{arith}
 use lib.ListN.{length, length-take, length-drop}
 use Rattle.rules.specs.Image.{gridOf}
 use Rattle.rules.specs.Ways.{sourceOf, convertOver, answerOf}
-use Rattle.fixes.specs.Fix.{pointAt, heightAt}
+use Rattle.fixes.specs.Fix.{atFix}
 use Rattle.fixes.proofs.Counts.{count-fits}
 use Rattle.fixes.proofs.Lengths.{same-n}
 use Rattle.fixes.proofs.Answers.{Written, written-none, written-more, written-all}
@@ -13,19 +13,22 @@ use Rattle.fixes.proofs.convert_all.Statement.{statement}
 use Rattle.fixes.proofs.convert_all.Tie as tie
 
 abbrev Inv-loop : tie.InvT-loop
-Inv-loop way image g fixes answers₀ n k₀ answers k =
-    (k ≤ n) × (length answers ≡ 5 * n) × Written (convertOver way (sourceOf (gridOf image g))) fixes answers k
+Inv-loop way image l fixes answers₀ n k₀ answers k =
+    (k ≤ n) × (length answers ≡ 5 * n) × Written (convertOver way (sourceOf (gridOf image l))) fixes answers k
 
 abbrev μ-loop : tie.MeasureT-loop
-μ-loop way image g fixes answers₀ n k₀ answers k = n - k
+μ-loop way image l fixes answers₀ n k₀ answers k = n - k
 
 loop-holds : tie.Need-loop-holds Inv-loop μ-loop
 loop-holds c = (omega arith, same-n _ _ (c .before .pre .1) .1, written-none _ _ _ _ (omega arith))
 
 -- the answer that this turn writes is that of fix k
-answered : (c : tie.After-convert-fix Inv-loop μ-loop) → let l = c .before .before in let s = l .before .before .args in
-    answerOf (c .convert-fix .result) ≡ convertOver (s .way) (sourceOf (gridOf (s .image .now) (s .g))) (pointAt (s .fixes .now) (l .loop .k)) (heightAt (s .fixes .now) (l .loop .k))
-answered c = c .convert-fix .ensures
+answer-is : (c : tie.After-convert-fix Inv-loop μ-loop) →
+    let k = c .before .before .loop .k in
+    let s = c .before .before .before .before .args in
+    let single = convertOver (s .way) (sourceOf (gridOf (s .image .now) (s .l))) in
+    answerOf (c .convert-fix .result) ≡ atFix single (s .fixes .now) k
+answer-is c = c .convert-fix .ensures
 
 convert-fix-requires : tie.Need-convert-fix-requires Inv-loop μ-loop
 convert-fix-requires c κs = (c .before .before .before .pre .0, omega arith)
@@ -46,7 +49,7 @@ part-write-answer-end : tie.Need-part-write-answer-end Inv-loop μ-loop
 part-write-answer-end c = omega arith
 
 write-answer-requires : tie.Need-write-answer-requires Inv-loop μ-loop
-write-answer-requires c κs = (simp (length-take, length-drop) (omega arith), count-fits _ _ _ _ _ (answered (c .before)))
+write-answer-requires c κs = (simp (length-take, length-drop) (omega arith), count-fits _ _ _ _ _ (answer-is (c .before)))
 
 add-k : tie.Need-add-k Inv-loop μ-loop
 add-k c = omega arith
@@ -60,7 +63,7 @@ loop-again c =
     let l = v .before .before .loop in (
       omega arith,
       c .answers .given .1 ∙ l .inv .1,
-      written-more _ _ _ _ _ _ _ _ (omega arith) (omega arith) (c .before .write-answer .ensures) (answered v) (l .inv .2),
+      written-more _ _ _ _ _ _ _ _ (omega arith) (omega arith) (c .before .write-answer .ensures) (answer-is v) (l .inv .2),
     )
 
 same-length : tie.Need-same-length Inv-loop μ-loop

@@ -4,7 +4,7 @@ use native.Mathlib.Omega.{arith}
 use borrow.Author.Needs.{needs}
 use denote.Ref.{now}
 use mir.Syntax.{w64}
-use Rattle.integers.specs.Machine.{kept}
+use Rattle.integers.specs.Machine.{reads-back}
 use Rattle.rules.specs.Image.{gridOf}
 use Rattle.rules.specs.Ways.{sourceOf, convertOver}
 use Rattle.fixes.proofs.convert_fix.Statement.{statement}
@@ -14,10 +14,11 @@ returns : tie.Need-returns
 returns c =
     let h = c .before in
     let s = h .before .before .before .before .args in
-    let latitude = kept w64 _ (h .before .before .latitude .given) in
-    let longitude = kept w64 _ (h .before .longitude .given) in
-    let height = kept w64 _ (h .height .given) in
-    c .convert-over .ensures ∙ (λ i. convertOver (s .way) (sourceOf (gridOf (now (s .image)) (s .g))) (record { latitude = latitude i; longitude = longitude i }) (height i))
+    let latitude = reads-back w64 _ (h .before .before .latitude .given) in
+    let longitude = reads-back w64 _ (h .before .longitude .given) in
+    let height = reads-back w64 _ (h .height .given) in
+    let single = convertOver (s .way) (sourceOf (gridOf (now (s .image)) (s .l))) in
+    c .convert-over .ensures ∙ (λ i. single (record { latitude = latitude i; longitude = longitude i }) (height i))
 
 pub convert-fix-spec : {M : Type 1} → statement M
 convert-fix-spec =

@@ -3,25 +3,32 @@ use borrow.Author.Needs.{needs}
 use borrow.Author.Tests.{not-true, not-false}
 use mathlib.Core.Bool.{Bool}
 use mathlib.Core.Path.{_≡_, sym, ap, _∙_}
+use native.Mathlib.Omega.{arith}
 use denote.Ref.{now}
 use lib.ListN.{length}
 use mir.Syntax.{w64}
 use Rattle.integers.specs.Machine.{told}
 use Rattle.rules.specs.Answers.{values, number, numberOf}
+use Rattle.rules.specs.Image.{layoutFor}
 use Rattle.rules.specs.Lists.{question14, convertList}
 use Rattle.rules.specs.Questions.{opening, openedOf}
+use Rattle.rules.proofs.Opening.{opened, first-node}
 use Rattle.fixes.proofs.convert_list.Statement.{statement}
 use Rattle.fixes.proofs.convert_list.Tie as tie
 
--- questions 1 to 6 and 14, as the code found them
-found : (c : tie.After-g) → opening (now (c .before .before .before .before .args .image)) ≡ values (c .g .given .0 .0)
-found c = sym (c .before .before .«open» .ensures) ∙ ap openedOf (c .g .given .1)
+-- the entry, from where the image is opened
+abbrev start : tie.After-open → tie.Start
+start c = c .before .before
 
-refused : (c : tie.After-r) → opening (now (c .before .before .before .before .args .image)) ≡ number (numberOf (c .r .given .0 .0))
+-- questions 1 to 6 and 14, as the code found them
+found : (c : tie.After-n) → opening (now (start (c .before .before) .args .image)) ≡ values (layoutFor (c .n .given .0 .0))
+found c = sym (c .before .before .«open» .ensures) ∙ ap openedOf (c .n .given .1)
+
+refused : (c : tie.After-r) → opening (now (start (c .before .before) .args .image)) ≡ number (numberOf (c .r .given .0 .0))
 refused c = sym (c .before .before .«open» .ensures) ∙ ap openedOf (c .r .given .1)
 
-lengths : (c : tie.After-lengths-pass) (b : Bool) → c .lengths-pass .result ≡ b
-    → let s = c .before .before .before .before .before .before .before .args in question14 (length (now (s .fixes))) (length (now (s .answers))) ≡ b
+lengths : (c : tie.After-lengths-pass) (b : Bool) → c .lengths-pass .result ≡ b →
+    let s = start (c .before .before .before .before .before) .args in question14 (length (now (s .fixes))) (length (now (s .answers))) ≡ b
 lengths c b e = sym (c .lengths-pass .ensures) ∙ e
 
 returns : tie.Need-returns
@@ -32,18 +39,26 @@ returns c =
     let n = c .refusal-number in
     (rw (found (t .before .before .before), q) (told w64 (n .ok) (n .ensures)), rw (found (t .before .before .before), q))
 
+layout-for-requires : tie.Need-layout-for-requires
+layout-for-requires c κs = omega (arith, first-node _ _ (found (c .before .before .before .before)))
+
+-- the layout that is handed on
+laid : (c : tie.After-layout-for) →
+    opening (now (start (c .before .before .before .before .before .before .before) .args .image)) ≡ values (c .layout-for .result)
+laid c = found (c .before .before .before .before .before) ∙ ap values (sym (c .layout-for .ensures))
+
 convert-all-requires : tie.Need-convert-all-requires
 convert-all-requires c κs =
-    let t = c .before .before in
-    (found (t .before .before .before), lengths t _ (not-false _ (c .before .if1 .left)))
+    let e = c .before .before in
+    (opened _ _ (laid (c .before)), lengths (e .before) _ (not-false _ (e .if1 .left)))
 
 returns-2 : tie.Need-returns-2
 unfolding convertList
 returns-2 c =
-    let e = c .before .before .before in
-    let t = e .before in
-    let q = lengths t _ (not-false _ (e .if1 .left)) in
-    (rw (found (t .before .before .before), q), rw (found (t .before .before .before), q) (c .before .convert-all .ensures))
+    let l = c .before .before .before in
+    let e = l .before in
+    let q = lengths (e .before) _ (not-false _ (e .if1 .left)) in
+    (rw (laid l, q), rw (laid l, q) (c .before .convert-all .ensures))
 
 returns-3 : tie.Need-returns-3
 unfolding convertList
@@ -61,6 +76,7 @@ convert-list-spec =
     (λ c κs. tt)
     (λ c. search needs)
     returns
+    layout-for-requires
     convert-all-requires
     (λ c. search needs)
     (λ c κs. tt)

@@ -3,16 +3,16 @@ use borrow.Author.Needs.{needs}
 use Prim.Native.Nat.{_≤_}
 use mir.Facts.{toZ-pos}
 use mir.Syntax.{w64}
-use Rattle.integers.specs.Machine.{kept, zarith}
+use Rattle.integers.specs.Machine.{reads-back, told, zarith}
 use Rattle.fixes.proofs.write_answer.Statement.{statement}
 use Rattle.fixes.proofs.write_answer.Tie as tie
 
 -- the count of the answer that is matched
-counted : (c : tie.After-a) → c .a .given .0 .0 .count ≤ 5
-counted c = rw (c .a .given .1) at (c .before .before .pre .1)
+count-most : (c : tie.After-a) → c .a .given .0 .0 .count ≤ 5
+count-most c = rw (c .a .given .1) at (c .before .before .pre .1)
 
 cast-count : tie.Need-cast-count
-cast-count c = omega (zarith, counted (c .before .before .before .before .before))
+cast-count c = omega (zarith, count-most (c .before .before .before .before .before))
 
 returns : tie.Need-returns
 returns c =
@@ -21,17 +21,17 @@ returns c =
     let f = t .struct-told .given in
     rw (t .before .before .a .given .1)
     (rw (
-      kept w64 (p .latitude) (f .0 .1),
-      kept w64 (p .longitude) (f .1 .0 .1),
-      kept w64 (p .height) (f .1 .1 .0 .1),
+      reads-back w64 (p .latitude) (f .0 .1),
+      reads-back w64 (p .longitude) (f .1 .0 .1),
+      reads-back w64 (p .height) (f .1 .1 .0 .1),
       toZ-pos w64 (cast-count (c .before .before .before) .sfits),
     ) at (c .before .write-five .ensures))
 
 returns-2 : tie.Need-returns-2
 returns-2 c =
     let n = c .before .before .before in
-    rw (n .before .before .a2 .given .1)
-    (rw (kept w64 (n .refusal-number .result) (n .refusal-number .ok), n .refusal-number .ensures) at (c .before .write-five2 .ensures))
+    let r = n .refusal-number in
+    rw (n .before .before .a2 .given .1) (rw (told w64 (r .ok) (r .ensures)) at (c .before .write-five2 .ensures))
 
 pub write-answer-spec : {M : Type 1} → statement M
 write-answer-spec =

@@ -1,87 +1,140 @@
--- `lookup::cell_around` meets its contract: the place of the point on each axis gives its cell, whose corners `cell_at` reads.
-use mathlib.Core.Path.{_≡_, ap, _∙_}
-use Prim.Native.Nat.{_-_}
+-- `lookup::cell_around` meets its contract: the place of the point on each axis gives its cell, whose corners `corners_at` reads.
+use mathlib.Core.Path.{_≡_, sym, ap, subst, _∙_}
+use Prim.Native.Nat.{ℕ, _+_, _-_, _*_, _≤_, _<_}
 use native.Mathlib.Omega.{arith}
 use lib.ListN.{length}
 use denote.Ref.{now}
-use Rattle.rules.specs.Image.{gridOf}
-use Rattle.rules.specs.Limits.{Open}
-use Rattle.rules.specs.Bilinear.{offset, partOf, cellFor}
-use Rattle.rules.proofs.Opening.{opened}
+use Rattle.rules.specs.declared.Axis.{Axis}
+use Rattle.rules.specs.declared.Plane.{Plane}
+use Rattle.rules.specs.Image.{plane, rows, columns}
+use Rattle.rules.specs.Limits.{Sized, InImage}
+use Rattle.rules.specs.Bilinear.{offset, cellOf, partOf, corners}
 use Rattle.rules.proofs.Cells.{cell-nodes, less-part}
-use Rattle.bilinear.specs.Place.{placeOn}
-use Rattle.nodes.specs.Cell.{cellAt, cornersPass}
-use Rattle.lookup.specs.Values.{heldAt}
-use Rattle.lookup.proofs.Found.{bounded}
+use Rattle.axis.specs.Place.{placeOn}
+use Rattle.axis.specs.declared.AxisPlace.{AxisPlace}
+use Rattle.rules.specs.declared.Run.{Run}
+use Rattle.lookup.specs.declared.Offsets.{Offsets}
+use Rattle.lookup.specs.Held.{planeOf, cornersPass, heldCell, heldAt}
 use borrow.Author.Needs.{needs}
 use Rattle.lookup.proofs.cell_around.Statement.{statement}
 use Rattle.lookup.proofs.cell_around.Tie as tie
 
-is-open : (c : tie.Start) → Open (length (c .args .image .now)) (c .args .g)
-is-open c = opened _ _ (c .pre .0)
+-- the axes, and the offsets of the point on them
+abbrev latitude-axis : tie.Start → Axis
+latitude-axis s = s .args .g .latitude
+
+abbrev longitude-axis : tie.Start → Axis
+longitude-axis s = s .args .g .longitude
+
+abbrev northing : tie.Start → ℕ
+northing s = offset (latitude-axis s) (s .args .p .latitude)
+
+abbrev easting : tie.Start → ℕ
+easting s = offset (longitude-axis s) (s .args .p .longitude)
 
 -- the places on both axes
-row : (c : tie.After-locate) → let s = c .before .before .before .before .before .args in
-    c .locate .result ≡ placeOn (s .g .latitude) (offset (s .g .latitude) (s .p .latitude))
+abbrev start : tie.After-locate2 → tie.Start
+start c = c .before .before .before .before
+
+row : (c : tie.After-locate) → let s = c .before .before .before in c .locate .result ≡ placeOn (latitude-axis s) (northing s)
 row c = rw (c .before .offsets-of .ensures) at (c .locate .ensures)
 
-column : (c : tie.After-locate2) → let s = c .before .before .before .before .before .before .args in
-    c .locate2 .result ≡ placeOn (s .g .longitude) (offset (s .g .longitude) (s .p .longitude))
+column : (c : tie.After-locate2) → let s = start c in c .locate2 .result ≡ placeOn (longitude-axis s) (easting s)
 column c = rw (c .before .before .offsets-of .ensures) at (c .locate2 .ensures)
 
--- the corners of the point's cell
-corners : (c : tie.After-cell-at) → let s = c .before .before .before .before .before .before .before .args in
-    c .cell-at .result ≡ cellAt (gridOf (now (s .image)) (s .g)) (cellFor (s .g .latitude) (s .p .latitude)) (cellFor (s .g .longitude) (s .p .longitude))
-corners c =
-    let s = c .before .before .before .before .before .before .before .args in
-    c .cell-at .ensures ∙ (λ i. cellAt (gridOf (now (s .image)) (s .g)) (row (c .before .before) i .cell) (column (c .before) i .cell))
+-- a place on an axis: the node after its cell's is one of the axis, and its part is at most the offset
+next-node : (a : Axis) (x : ℕ) {at : AxisPlace} → Sized a → at ≡ placeOn a x → at .cell + 1 < a .count
+next-node a x o h = rw h (cell-nodes a x o)
 
-offsets-of-requires : tie.Need-offsets-of-requires
-offsets-of-requires c κs = let s = c .before .before .before in bounded (is-open s) (s .pre .1)
-
-locate-requires : tie.Need-locate-requires
-locate-requires c κs = is-open (c .before .before .before .before) .latitude .sized
-
-locate-requires-2 : tie.Need-locate-requires-2
-locate-requires-2 c κs = is-open (c .before .before .before .before .before) .longitude .sized
-
-cell-at-requires : tie.Need-cell-at-requires
-cell-at-requires c κs = let s = c .before .before .before .before .before .before in
-    let o = is-open s in
-    (o, (rw (row (c .before)) (cell-nodes _ (offset (s .args .g .latitude) (s .args .p .latitude)) (o .latitude .sized)), rw (column c) (cell-nodes _ (offset (s .args .g .longitude) (s .args .p .longitude)) (o .longitude .sized))))
-
-sub-t11 : tie.Need-sub-t11
+part-below : (a : Axis) {x n : ℕ} {at : AxisPlace} → n ≡ x → at ≡ placeOn a x → at .part ≤ n
 unfolding partOf
-sub-t11 c = let t = c .before .before .before .before .before in
-    rw (row t, t .before .offsets-of .ensures) (omega arith)
+part-below a e h = rw (e, h) (omega arith)
 
-sub-t12 : tie.Need-sub-t12
-unfolding partOf
-sub-t12 c = let t = c .before .before .before .before .before .before in
-    rw (column t, t .before .before .offsets-of .ensures) (omega arith)
+side-of : (a : Axis) {x n : ℕ} {at : AxisPlace} → n ≡ x → at ≡ placeOn a x → n - at .part ≡ cellOf a x * a .spacing
+side-of a {x} e h = rw (e, h) (less-part a x)
+
+-- the corners of the cell can be read of a plane that is in the image and has the geometry
+abbrev Readable : tie.After-locate2 → Plane → Type 0
+Readable c p =
+    InImage (length (now (start c .args .image))) p
+    × ((c .before .locate .result .cell + 1 < rows (p .geometry)) × (c .locate2 .result .cell + 1 < columns (p .geometry)))
+
+readable : (c : tie.After-locate2) (r : Run) {p : Plane} → p ≡ planeOf (start c .args .g) r
+    → InImage (length (now (start c .args .image))) (planeOf (start c .args .g) r) → Readable c p
+readable c r {p} e i =
+    let s = start c in
+    let row-next = next-node (latitude-axis s) (northing s) (i .geometry .latitude .sized) (row (c .before)) in
+    let column-next = next-node (longitude-axis s) (easting s) (i .geometry .longitude .sized) (column c) in
+    subst (Readable c) (sym e) (i, (row-next, column-next))
+
+corners-at-requires : tie.Need-corners-at-requires
+corners-at-requires c κs = let t = c .before in readable t _ (c .plane-of .ensures) (start t .pre .layout .latitude)
+
+corners-at-requires-2 : tie.Need-corners-at-requires-2
+corners-at-requires-2 c κs = let t = c .before .before .before in readable t _ (c .plane-of2 .ensures) (start t .pre .layout .longitude)
+
+corners-at-requires-3 : tie.Need-corners-at-requires-3
+corners-at-requires-3 c κs =
+    let t = c .before .before .before .before .before in
+    readable t _ (c .plane-of3 .ensures) (start t .pre .layout .height)
+
+-- the offsets that were found
+northing-is : (c : tie.After-locate2) → c .before .before .offsets-of .result .northing ≡ northing (start c)
+northing-is c = ap (λ (o : Offsets). o .northing) (c .before .before .offsets-of .ensures)
+
+easting-is : (c : tie.After-locate2) → c .before .before .offsets-of .result .easting ≡ easting (start c)
+easting-is c = ap (λ (o : Offsets). o .easting) (c .before .before .offsets-of .ensures)
+
+-- the places, once the corners are read
+abbrev placed : tie.After-corners-pass → tie.After-locate2
+placed c = c .before .before .before .before .before .before .before
+
+sub-south : tie.Need-sub-t13
+sub-south c = let t = placed (c .before .before) in part-below (latitude-axis (start t)) (northing-is t) (row (t .before))
+
+sub-west : tie.Need-sub-t14
+sub-west c = let t = placed (c .before .before .before .before) in part-below (longitude-axis (start t)) (easting-is t) (column t)
 
 returns : tie.Need-returns
-unfolding heldAt
+unfolding heldAt heldCell
 returns c =
-    let e = c .before .before .before .before .before in
-    let t = e .before in
-    let s = t .before .before .before .before .before .before .args in
-    let o = t .before .before .offsets-of in
-    let cell = corners e in
-    let south = (λ i. o .ensures i .north - row (t .before) i .part) ∙ less-part (s .g .latitude) (offset (s .g .latitude) (s .p .latitude)) in
-    let west = (λ i. o .ensures i .east - column t i .part) ∙ less-part (s .g .longitude) (offset (s .g .longitude) (s .p .longitude)) in
-    let passes = c .before .before .before .before .cell-passes .ensures ∙ ap cornersPass cell in
-    λ i. record { corners = cell i; south = south i; west = west i; passes = passes i }
+    let p = c .before .before .before .before in
+    let t = placed p in
+    let b = now (start t .args .image) in
+    let r = ap (λ (at : AxisPlace). at .cell) (row (t .before)) in
+    let k = ap (λ (at : AxisPlace). at .cell) (column t) in
+    let h = p .before in
+    let o = h .before .before in
+    let a = o .before .before in
+    let latitude = a .corners-at .ensures ∙ (λ i. corners (plane b (a .before .plane-of .ensures i)) (r i) (k i)) in
+    let longitude = o .corners-at2 .ensures ∙ (λ i. corners (plane b (o .before .plane-of2 .ensures i)) (r i) (k i)) in
+    let height = h .corners-at3 .ensures ∙ (λ i. corners (plane b (h .before .plane-of3 .ensures i)) (r i) (k i)) in
+    let south = side-of (latitude-axis (start t)) (northing-is t) (row (t .before)) in
+    let west = side-of (longitude-axis (start t)) (easting-is t) (column t) in
+    let passes = p .corners-pass .ensures ∙ (λ i. cornersPass (latitude i) (longitude i) (height i)) in
+    λ i. record {
+      south = south i;
+      west = west i;
+      latitude = latitude i;
+      longitude = longitude i;
+      height = height i;
+      passes = passes i;
+    }
 
 pub cell-around-spec : {M : Type 1} → statement M
 cell-around-spec =
     tie.close
     (tie.spec
-    offsets-of-requires
-    locate-requires
-    locate-requires-2
-    cell-at-requires
     (λ c κs. search needs)
-    sub-t11
-    sub-t12
+    (λ c κs. search needs)
+    (λ c κs. search needs)
+    (λ c κs. search needs)
+    corners-at-requires
+    (λ c κs. search needs)
+    corners-at-requires-2
+    (λ c κs. search needs)
+    corners-at-requires-3
+    (λ c κs. search needs)
+    sub-south
+    sub-west
     returns)

@@ -15,7 +15,7 @@ sub-t6 c = rw (c .before .before .before .before .offsets-of .ensures) (c .befor
 returns : tie.Need-returns
 returns c = let t = c .before .before .before .before in
     let s = t .before .args in
-    ap (λ (o : Offsets). record { u = o .north - s .h .south; v = o .east - s .h .west; p = s .g .latitude .spacing; q = s .g .longitude .spacing }) (t .offsets-of .ensures)
+    ap (λ (o : Offsets). record { u = o .northing - s .h .south; v = o .easting - s .h .west }) (t .offsets-of .ensures)
 
 pub place-in-spec : {M : Type 1} → statement M
 place-in-spec = tie.close (tie.spec (λ c κs. search needs) sub-t5 sub-t6 returns)

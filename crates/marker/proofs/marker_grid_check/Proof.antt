@@ -8,7 +8,7 @@ use mir.ValLaws.{toZ-pos}
 use Rattle.integers.specs.Machine.{zarith, told}
 use Rattle.rules.specs.Answers.{values}
 use Rattle.rules.specs.Check.{gridCheck, checkedOf}
-use Rattle.slopes.specs.Rows.{FindingsWithin}
+use Rattle.slopes.specs.Rows.{stepMost, FindingsWithin}
 use Rattle.slopes.proofs.Maxima.{passed-small}
 use borrow.Author.Needs.{needs}
 use Rattle.marker.proofs.marker_grid_check.Statement.{statement}
@@ -17,7 +17,7 @@ use Rattle.marker.proofs.marker_grid_check.Tie as tie
 passed : (c : tie.After-f) → gridCheck (now (c .before .before .before .before .args .image)) ≡ values (c .f .given .0 .0)
 passed c = sym (c .before .before .grid-check .ensures) ∙ ap checkedOf (c .f .given .1)
 
-small : (c : tie.After-f) → FindingsWithin 20000000 (c .f .given .0 .0)
+small : (c : tie.After-f) → FindingsWithin stepMost (c .f .given .0 .0)
 small c = passed-small _ _ (passed c)
 
 cast-t10 : tie.Need-cast-t10
@@ -43,12 +43,12 @@ returns c = let at = c .before .before .before .before .before .before .before .
     let e = passed at in
     let f = at .f .given .0 .0 in
     let s = small at in
-    let a = toZ-pos w64 (f .latitude .north) (omega arith) in
-    let b = toZ-pos w64 (f .latitude .east) (omega arith) in
-    let d = toZ-pos w64 (f .longitude .north) (omega arith) in
-    let g = toZ-pos w64 (f .longitude .east) (omega arith) in
-    let h = toZ-pos w64 (f .height .north) (omega arith) in
-    let k = toZ-pos w64 (f .height .east) (omega arith) in
+    let a = toZ-pos w64 (f .latitude .northward) (omega arith) in
+    let b = toZ-pos w64 (f .latitude .eastward) (omega arith) in
+    let d = toZ-pos w64 (f .longitude .northward) (omega arith) in
+    let g = toZ-pos w64 (f .longitude .eastward) (omega arith) in
+    let h = toZ-pos w64 (f .height .northward) (omega arith) in
+    let k = toZ-pos w64 (f .height .eastward) (omega arith) in
     (rw e, rw e (λ i. a i ∷ b i ∷ d i ∷ g i ∷ h i ∷ k i ∷ []))
 
 returns-2 : tie.Need-returns-2

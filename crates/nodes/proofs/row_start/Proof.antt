@@ -1,28 +1,33 @@
--- `nodes::row_start` meets its contract: a row lies before the trailer, so nothing wraps.
+-- `nodes::row_start` meets its contract: a row begins in the image, so nothing wraps.
+use Prim.Native.Nat.{_+_, _*_, _≤_}
+use native.Mathlib.Nat.{mul-le-mul}
 use native.Mathlib.Omega.{arith}
-use Rattle.nodes.proofs.Parts.{row-inside}
 use borrow.Author.Needs.{needs}
+use Rattle.rules.specs.Units.{countMost}
+use Rattle.rules.specs.Image.{columns}
+use Rattle.nodes.specs.Row.{rowStart}
+use Rattle.nodes.proofs.Parts.{row-inside}
 use Rattle.nodes.proofs.row_start.Statement.{statement}
 use Rattle.nodes.proofs.row_start.Tie as tie
 
-mul-result-3 : tie.Need-mul-result-3
-mul-result-3 c = let s = c .before .before .before in omega (arith, row-inside (s .args .size) (s .args .g) (s .args .row) (s .pre .0) (s .pre .1))
+-- at most 4,096 rows of 4,096 values, and the row's first value is in the image
+bounds : (c : tie.Start) → let s = c .args in
+    (s .row * columns (s .p .geometry) ≤ countMost * countMost) × (rowStart (s .p) (s .row) + 4 ≤ s .size)
+bounds c =
+    let o = c .pre .0 .geometry in
+    let below : c .args .row ≤ countMost = omega (arith, o .latitude .sized .count-most, c .pre .1) in (
+      mul-le-mul {n₂ = countMost} {m₂ = countMost} below (o .longitude .sized .count-most),
+      omega (arith, row-inside (c .pre .0) (c .args .row) 0 (c .pre .1) (omega (arith, o .longitude .sized .count-least))),
+    )
 
-mul-result-4 : tie.Need-mul-result-4
-mul-result-4 c = let s = c .before .before .before in omega (arith, row-inside (s .args .size) (s .args .g) (s .args .row) (s .pre .0) (s .pre .1))
+mul-result : tie.Need-mul-result
+mul-result c = omega (arith, bounds (c .before))
 
-add-result-2 : tie.Need-add-result-2
-add-result-2 c = let s = c .before .before .before in omega (arith, row-inside (s .args .size) (s .args .g) (s .args .row) (s .pre .0) (s .pre .1))
+mul-result-2 : tie.Need-mul-result-2
+mul-result-2 c = omega (arith, bounds (c .before .before))
+
+add-result : tie.Need-add-result
+add-result c = omega (arith, bounds (c .before .before .before))
 
 pub row-start-spec : {M : Type 1} → statement M
-row-start-spec =
-    tie.close
-    (tie.spec
-    (λ c. search needs)
-    (λ c. search needs)
-    (λ c. search needs)
-    (λ c. search needs)
-    mul-result-3
-    mul-result-4
-    add-result-2
-    (λ c. omega arith))
+row-start-spec = tie.close (tie.spec mul-result mul-result-2 add-result (λ c. search needs))

@@ -1,4 +1,4 @@
--- `notation::amounts_fit` meets its contract: no amounts that fit meet a refusal, and after the refusals the total decides.
+-- `notation::amounts_fit` meets its contract: no test refuses amounts that fit, and after the tests the total decides.
 use mathlib.Core.Path.{sym}
 use native.Mathlib.Omega.{arith}
 use borrow.Author.Needs.{needs}

@@ -1,4 +1,4 @@
--- `notation::letter_side` meets its contract: each arm knows which letter its byte is, or that it is neither of the axis's two.
+-- `notation::letter_side` meets its contract: each arm has the equation of its byte with a letter, or that it is neither of the axis's two.
 use mathlib.Core.Path.{refl}
 use borrow.Author.Tests.{ne-eqb}
 use Rattle.notation.proofs.letter_side.Statement.{statement}

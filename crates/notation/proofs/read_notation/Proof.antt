@@ -1,4 +1,4 @@
--- `notation::read_notation` meets its contract: the rule in the parts that the code asks, each known from a call's answer.
+-- `notation::read_notation` meets its contract: the rule in the parts that the code tests, each equal to a call's result.
 use mathlib.Core.Bool.{true}
 use mathlib.Core.Path.{_≡_, sym, ap, _∙_}
 use Prim.Native.Nat.{ℕ, _*_, _≤_}
@@ -12,11 +12,13 @@ use borrow.Author.Tests.{not-true, not-false}
 use Rattle.integers.specs.Difference.{lit, _⊖_}
 use Rattle.integers.specs.Machine.{zarith, range, read-result, told}
 use Rattle.rules.specs.Answers.{values}
-use Rattle.rules.specs.Notation.{perDegree, total, magnitudeRead}
-use Rattle.notation.specs.Parts.{amountsFit, amounts, axis-most, read-in-parts}
+use Rattle.rules.specs.Notation.{perDegree, total, magnitudeRead, readNotation}
+use Rattle.notation.specs.declared.Side.{Side}
+use Rattle.notation.specs.Parts.{amountsFit, angleOn, amounts, axis-most, read-in-parts}
 use Rattle.notation.proofs.read_notation.Statement.{statement}
 use Rattle.notation.proofs.read_notation.Tie as tie
 
+-- the amounts fit, past their test
 fit : (c : tie.Else1) → amountsFit (c .before .before .args .longitude) (c .before .before .args .n) ≡ true
 fit c = sym (c .before .amounts-fit .ensures) ∙ not-false _ (c .if1 .left)
 
@@ -35,7 +37,8 @@ size-of-requires : tie.Need-size-of-requires
 size-of-requires c κs = omega (arith, small-total (c .before))
 
 -- the size in nd, as the machine reads it back
-size-is : (c : tie.After-size-of) → toZ w64 (ofZ w64 (c .size-of .result)) ≡ pos (magnitudeRead (total (c .before .before .before .before .args .n)))
+size-is : (c : tie.After-size-of) → let s = c .before .before .before .before .args in
+    toZ w64 (ofZ w64 (c .size-of .result)) ≡ pos (magnitudeRead (total (s .n)))
 size-is c = told w64 (c .size-of .ok) (c .size-of .ensures) ∙ ap (λ (t : ℕ). pos (magnitudeRead t)) (c .before .total-of .ensures)
 
 sub-t11 : tie.Need-sub-t11
@@ -43,18 +46,24 @@ sub-t11 c =
     let s = c .before .before .before .size-of in
     omega (zarith, lit 0 ⊖ read-result w64 (s .result) (s .ok), range {w = w64} {z = s .result} (record { sfits = s .ok }), s .ensures)
 
+-- the rule's angle, on the side that an arm is told
+on-side : (c : tie.After-letter-side) (side : Side) → c .letter-side .result ≡ side →
+    let s = c .before .before .before .before .before .args in
+    readNotation (s .longitude) (s .n) ≡ angleOn side (magnitudeRead (total (s .n)))
+on-side c side e = rw (read-in-parts, fit (c .before .before .before), sym (c .letter-side .ensures) ∙ e)
+
 returns-2 : tie.Need-returns-2
 returns-2 c =
-    rw (read-in-parts, fit (c .before .before .before .before .before), sym (c .before .before .letter-side .ensures) ∙ c .enum-told .given .1)
-    (ap values (size-is (c .before .before .before)))
+    let l = c .before .before in
+    ap values (size-is (l .before)) ∙ sym (on-side l _ (c .enum-told .given .1))
 
 returns-3 : tie.Need-returns-3
 returns-3 c =
-    rw (read-in-parts, fit (c .before .before .before .before .before), sym (c .before .before .letter-side .ensures) ∙ c .enum-told2 .given .1)
-    (ap values (toZ-ofZ (sub-t11 c) ∙ +ℤ-idl _ ∙ ap negℤ (size-is (c .before .before .before))))
+    let l = c .before .before in
+    ap values (toZ-ofZ (sub-t11 c) ∙ +ℤ-idl _ ∙ ap negℤ (size-is (l .before))) ∙ sym (on-side l _ (c .enum-told2 .given .1))
 
 returns-4 : tie.Need-returns-4
-returns-4 c = rw (read-in-parts, fit (c .before .before .before .before .before), sym (c .before .before .letter-side .ensures) ∙ c .enum-told3 .given .1)
+returns-4 c = sym (on-side (c .before .before) _ (c .enum-told3 .given .1))
 
 pub read-notation-spec : {M : Type 1} → statement M
 read-notation-spec =

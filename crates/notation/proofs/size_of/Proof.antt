@@ -1,4 +1,4 @@
--- `notation::size_of` meets its contract: the quotient is far below the half of 64 bits, so the cast keeps it.
+-- `notation::size_of` meets its contract: the quotient is below 2^63, so the cast keeps it.
 use Prim.Native.Nat.{_+_, _*_, _/_}
 use native.Mathlib.Omega.{arith}
 use mir.Syntax.{w64}

@@ -1,4 +1,4 @@
--- `notation::write_notation` meets its contract: the size within the axis's limit, then the rule's parts, each from a call's answer.
+-- `notation::write_notation` meets its contract: the size within the axis's limit, then the rule's parts, each equal to a call's result.
 use mathlib.Core.Bool.{true, false}
 use mathlib.Core.Path.{_≡_}
 use native.Mathlib.Omega.{arith}
@@ -15,8 +15,12 @@ use Rattle.notation.proofs.write_notation.Tie as tie
 size-is : (c : tie.After-magnitude) → c .magnitude .result ≡ natAbs (c .before .args .nd)
 size-is c = rw (toZ-ofZ (c .before .fits .nd)) at (c .magnitude .ensures)
 
-letter-is : (c : tie.After-letter-of) → c .letter-of .result ≡ letterWritten (c .before .before .before .before .args .longitude) (c .before .before .before .before .args .nd)
-letter-is c = rw (toZ-ofZ (c .before .before .before .before .fits .nd)) at (c .letter-of .ensures)
+-- the entry, from where the letter is known
+abbrev start : tie.After-letter-of → tie.Start
+start c = c .before .before .before .before
+
+letter-is : (c : tie.After-letter-of) → let s = start c .args in c .letter-of .result ≡ letterWritten (s .longitude) (s .nd)
+letter-is c = rw (toZ-ofZ (start c .fits .nd)) at (c .letter-of .ensures)
 
 mul-if1 : tie.Need-mul-if1
 mul-if1 c = omega (arith, axis-most (c .before .before .args .longitude))
@@ -29,14 +33,16 @@ returns c =
     rw k
 
 notation-of-requires : tie.Need-notation-of-requires
-notation-of-requires c κs = omega (arith, axis-most (c .before .before .before .before .args .longitude))
+notation-of-requires c κs = omega (arith, axis-most (start c .args .longitude))
 
 returns-2 : tie.Need-returns-2
 unfolding writeNotation totalWritten
 returns-2 c =
-    let s = c .before .before .before .before .before .args in
-    let k : within (degrees (axisLimit (s .longitude))) (s .nd) ≡ true = omega (arith, le-leb, size-is (c .before .before .before .before)) in
-    rw k (cc (c .notation-of .ensures, size-is (c .before .before .before .before), letter-is (c .before)))
+    let l = c .before in
+    let s = start l .args in
+    let z = size-is (l .before .before .before) in
+    let k : within (degrees (axisLimit (s .longitude))) (s .nd) ≡ true = omega (arith, le-leb) in
+    rw k (cc (c .notation-of .ensures, letter-is l))
 
 pub write-notation-spec : {M : Type 1} → statement M
 write-notation-spec =

@@ -7,10 +7,16 @@ use Rattle.numbers.proofs.is_between.Statement.{statement}
 use Rattle.numbers.proofs.is_between.Tie as tie
 
 returns : tie.Need-returns
-returns c = let high-enough : c .before .args .low ≤ c .before .args .n = omega arith in rw (le-leb _ _ high-enough) refl
+returns c =
+    let s = c .before .args in
+    let high-enough : s .low ≤ s .n = omega arith in
+    rw (le-leb _ _ high-enough) refl
 
 returns-2 : tie.Need-returns-2
-returns-2 c = let too-low : c .before .args .n < c .before .args .low = omega arith in rw (lt-leb _ _ too-low)
+returns-2 c =
+    let s = c .before .args in
+    let too-low : s .n < s .low = omega arith in
+    rw (lt-leb _ _ too-low)
 
 pub is-between-spec : {M : Type 1} → statement M
 is-between-spec = tie.close (tie.spec returns returns-2)

@@ -14,7 +14,7 @@ sub-result-2 : tie.Need-sub-result-2
 sub-result-2 c = omega (zarith, var (negsuc 0) ⊖ read-cast w64 (18446744073709551615 - c .before .args .n) (omega arith))
 
 returns : tie.Need-returns
-returns c = rw (lt-ltb _ _ (c .if1 .taken)) (omega (zarith, read-cast w64 (c .before .args .n) (omega arith)))
+returns c = rw (lt-ltb _ _ (c .if1 .taken))
 
 returns-2 : tie.Need-returns-2
 returns-2 c =

@@ -7,10 +7,11 @@ use prog.Routine.{Routine}
 use prog.Wp.{Heap}
 use ghost.Atoms.{Atoms}
 use contract.Monad.{Fun}
-use contract.Running.{givenOf, tables, tablesOf}
+use contract.Running.{MachineTables, givenOf, tables, tablesOf}
+use denote.Triple.Statement.{Contract}
 use denote.Triple.Spec.{tripleOf}
 use denote.Triple.Table.{entered, cited}
-use Rattle.opened.proofs.Contracts.{Opens, IsOut}
+use Rattle.opened.specs.Over.{Opens, IsOut}
 use Rattle.opened.proofs.Types.{Fix, Answer}
 use Rattle.opened.proofs.Over.{its-clauses}
 use Rattle.opened.proofs.Through.{Making, Lower, through}
@@ -26,14 +27,18 @@ use Rattle.opened.proofs.out_through.Statement as stated
 use Rattle.opened.proofs.out_through.Code as code
 
 -- the contract: the covered function's, as it is
-same : {M : Type 1} (𝓤 : URA M) (H : Heap 𝓤) (A : Atoms 𝓤) (mem : Memory → SProp 𝓤) (run : Routine → Fun 𝓤) → out-through.clauses 𝓤 H A mem run ≡ its-clauses 𝓤 H A Fix Answer Opens IsOut
+same : {M : Type 1} (𝓤 : URA M) (H : Heap 𝓤) (A : Atoms 𝓤) (mem : Memory → SProp 𝓤) (run : Routine → Fun 𝓤)
+    → out-through.clauses 𝓤 H A mem run ≡ its-clauses 𝓤 H A Fix Answer Opens IsOut
 same 𝓤 H A mem run = refl
 
 pub out-through-spec : {M : Type 1} → stated.statement M
 unfolding code.routine tablesOf
 out-through-spec 𝓤 H 𝓜 𝓖 𝓡 =
+    let 𝓣 : MachineTables 𝓤 H 𝓜 = tables 𝓤 H 𝓜 𝓡 code.env in
+    let making : Contract 𝓤 = Making 𝓤 H (𝓖 .A) (𝓜 .mem) (𝓡 .run) Fix Answer Opens IsOut in
+    let lower : Contract 𝓤 = Lower 𝓤 H (𝓖 .A) (𝓜 .mem) (𝓡 .run) Fix Answer Opens IsOut in
     entered 𝓤 H (tripleOf 𝓤 H (𝓖 .A) out-through.signature (out-through.spec 𝓤 H (𝓖 .A) (𝓜 .mem) (𝓡 .run)))
-    (tables 𝓤 H 𝓜 𝓡 code.env .C) (tables 𝓤 H 𝓜 𝓡 code.env .Λ) #opened·out-through code.function (code.unfolded 𝓤 H 𝓜 𝓡)
-    (through 𝓤 H (𝓖 .A) (𝓜 .mem) (𝓡 .run) Fix Answer Opens IsOut (givenOf 𝓤 H 𝓜 𝓖) #opened·out-over-image (tablesOf 𝓤 H 𝓜 (tables 𝓤 H 𝓜 𝓡 code.env))
-    (cited 𝓤 H (Making 𝓤 H (𝓖 .A) (𝓜 .mem) (𝓡 .run) Fix Answer Opens IsOut) 𝓜 𝓡 code.env #opened·opened-image making-def.routine code.calls-opened·opened-image (making-thm.met 𝓤 H 𝓜 𝓖 𝓡))
-    (cited 𝓤 H (Lower 𝓤 H (𝓖 .A) (𝓜 .mem) (𝓡 .run) Fix Answer Opens IsOut) 𝓜 𝓡 code.env #opened·out-over-image lower-def.routine code.calls-opened·out-over-image (lower-thm.met 𝓤 H 𝓜 𝓖 𝓡)))
+    (𝓣 .C) (𝓣 .Λ) #opened·out-through code.function (code.unfolded 𝓤 H 𝓜 𝓡)
+    (through 𝓤 H (𝓖 .A) (𝓜 .mem) (𝓡 .run) Fix Answer Opens IsOut (givenOf 𝓤 H 𝓜 𝓖) #opened·out-over-image (tablesOf 𝓤 H 𝓜 𝓣)
+    (cited 𝓤 H making 𝓜 𝓡 code.env #opened·opened-image making-def.routine code.calls-opened·opened-image (making-thm.met 𝓤 H 𝓜 𝓖 𝓡))
+    (cited 𝓤 H lower 𝓜 𝓡 code.env #opened·out-over-image lower-def.routine code.calls-opened·out-over-image (lower-thm.met 𝓤 H 𝓜 𝓖 𝓡)))

@@ -1,49 +1,56 @@
--- `out::answer_at` meets its contract: the held cell is q's where q lies in it, and the one read is q's.
-use mathlib.Core.Path.{_≡_, sym, _∙_}
+-- `out::answer_at` meets its contract: what the height's lookup ensures, and the difference.
+use mathlib.Core.Path.{_≡_, sym, ap, _∙_}
 use denote.Ref.{now}
-use lib.ListN.{length}
 use mir.Syntax.{w64}
-use Rattle.integers.specs.Machine.{kept}
-use Rattle.rules.specs.Image.{gridOf}
-use Rattle.rules.specs.Limits.{Open}
-use Rattle.rules.proofs.Opening.{opened}
-use Rattle.lookup.specs.Values.{heldAt}
-use Rattle.lookup.proofs.Found.{bounded, cell-holds}
-use Rattle.out.proofs.Turns.{height-then}
+use mir.Val.{toZ, ofZ}
+use mir.Facts.{toZ-ofZ}
+use Rattle.integers.specs.Machine.{reads-back}
+use Rattle.rules.specs.Answers.{values, number, numberOf}
+use Rattle.rules.specs.Image.{Grid, gridOf}
+use Rattle.rules.specs.Lookup.{heightLookup, heightLookupOf}
+use Rattle.lookup.proofs.Found.{bounded, height-within}
 use borrow.Author.Needs.{needs}
 use Rattle.out.proofs.answer_at.Statement.{statement}
 use Rattle.out.proofs.answer_at.Tie as tie
 
-is-open : (c : tie.Start) → Open (length (c .args .image .now)) (c .args .g)
-is-open c = opened _ _ (c .pre .0)
+abbrev grid : tie.Start → Grid
+grid s = gridOf (now (s .args .image)) (s .args .l)
 
--- the held cell, where q lies in it
-held : (c : tie.Then1) → let s = c .before .before .before .args in s .h ≡ heldAt (gridOf (now (s .image)) (s .g)) (s .q)
-held c = c .before .before .before .pre .3 (sym (c .before .lies-in .ensures) ∙ c .if1 .taken)
+-- the height's lookup, in each arm
+found : (c : tie.After-z) → let s = c .before .before .before .before in heightLookup (grid s) (s .args .q) ≡ values (c .z .given .0 .0)
+found c = sym (c .before .before .height-at .ensures) ∙ ap heightLookupOf (c .z .given .1)
 
-lies-in-requires : tie.Need-lies-in-requires
-lies-in-requires c κs = let s = c .before in bounded (is-open s) (s .pre .1)
+refused : (c : tie.After-r) → let s = c .before .before .before .before in
+    heightLookup (grid s) (s .args .q) ≡ number (numberOf (c .r .given .0 .0))
+refused c = sym (c .before .before .height-at .ensures) ∙ ap heightLookupOf (c .r .given .1)
 
-answer-in-requires : tie.Need-answer-in-requires
-answer-in-requires c κs = let s = c .before .before .before in
-    (rw (held c) (cell-holds (gridOf (now (s .args .image)) (s .args .g)) (s .args .q) (is-open s) (s .pre .1)), rw (kept w64 (s .args .height) (s .fits .height .sfits)) (s .pre .2))
+-- the height found is read back as it is
+read : (c : tie.After-known-told) → let z = c .before .z .given .0 .0 in toZ w64 (ofZ w64 z) ≡ z
+read c = reads-back w64 _ (c .known-told .given .0 .1)
+
+height-at-requires : tie.Need-height-at-requires
+height-at-requires c κs = let s = c .before in (s .pre .0, s .pre .1)
+
+position-below-requires : tie.Need-position-below-requires
+position-below-requires c κs =
+    let z = c .before in
+    let s = z .before .before .before .before in
+    let o = s .pre .0 .layout in
+    let b = bounded (o .latitude .geometry) (s .pre .0 .point) in (
+      rw (toZ-ofZ (s .fits .height)) (s .pre .2),
+      rw (read c) (height-within (grid s) (s .args .q) _ b (o .height-geometry) (found z)),
+    )
 
 returns : tie.Need-returns
 returns c =
-    let s = c .before .before .before .before in
-    rw (kept w64 (s .args .height) (s .fits .height .sfits)) at (c .answer-in .ensures)
-    ∙ sym (height-then (gridOf (now (s .args .image)) (s .args .g)) (s .args .q) (s .args .h) _ (held (c .before)))
-
-answer-in-requires-2 : tie.Need-answer-in-requires-2
-answer-in-requires-2 c κs = let s = c .before .before .before .before in
-    (rw (c .cell-around .ensures) (cell-holds (gridOf (now (s .args .image)) (s .args .g)) (s .args .q) (is-open s) (s .pre .1)), rw (kept w64 (s .args .height) (s .fits .height .sfits)) (s .pre .2))
+    let t = c .before in
+    let s = t .before .before .before .before .before in
+    rw (found (t .before)) (ap values (rw (toZ-ofZ (s .fits .height), read t) at (c .position-below .ensures)))
 
 returns-2 : tie.Need-returns-2
-returns-2 c =
-    let s = c .before .before .before .before .before in
-    rw (kept w64 (s .args .height) (s .fits .height .sfits)) at (c .answer-in2 .ensures)
-    ∙ sym (height-then (gridOf (now (s .args .image)) (s .args .g)) (s .args .q) (c .before .cell-around .result) _ (c .before .cell-around .ensures))
+returns-2 c = rw (refused (c .before))
 
 pub answer-at-spec : {M : Type 1} → statement M
 answer-at-spec =
-    tie.close (tie.spec lies-in-requires answer-in-requires returns (λ c κs. search needs) answer-in-requires-2 returns-2)
+    tie.close
+    (tie.spec height-at-requires (λ c. search needs) position-below-requires (λ c. search needs) returns returns-2)

@@ -1,20 +1,32 @@
--- `slopes::grid_check` meets its contract: questions 1 to 6 by `open`, the others by `check_nodes`.
+-- `slopes::grid_check` meets its contract: questions 1 to 6 by `open`, the others by `check_planes`.
 use mathlib.Core.Path.{_≡_, sym, ap, _∙_}
+use native.Mathlib.Omega.{arith}
 use denote.Ref.{now}
 use borrow.Author.Needs.{needs}
 use Rattle.rules.specs.Answers.{values}
+use Rattle.rules.specs.Image.{layoutFor}
 use Rattle.rules.specs.Questions.{opening, openedOf}
 use Rattle.rules.specs.Check.{gridCheck}
-use Rattle.rules.proofs.Opening.{opened}
+use Rattle.rules.proofs.Opening.{opened, first-node}
 use Rattle.slopes.proofs.grid_check.Statement.{statement}
 use Rattle.slopes.proofs.grid_check.Tie as tie
 
--- an image that opened
-geometry : (c : tie.After-g) → opening (now (c .before .before .before .before .args .image)) ≡ values (c .g .given .0 .0)
-geometry c = sym (c .before .before .«open» .ensures) ∙ ap openedOf (c .g .given .1)
+-- the entry, from where the image is opened
+abbrev start : tie.After-open → tie.Start
+start c = c .before .before
 
-check-nodes-requires : tie.Need-check-nodes-requires
-check-nodes-requires c κs = opened _ _ (geometry (c .before))
+-- an image that opened, and the layout that is handed on
+found : (c : tie.After-n) → opening (now (start (c .before .before) .args .image)) ≡ values (layoutFor (c .n .given .0 .0))
+found c = sym (c .before .before .«open» .ensures) ∙ ap openedOf (c .n .given .1)
+
+laid : (c : tie.After-layout-for) → opening (now (start (c .before .before .before .before) .args .image)) ≡ values (c .layout-for .result)
+laid c = found (c .before .before) ∙ ap values (sym (c .layout-for .ensures))
+
+layout-for-requires : tie.Need-layout-for-requires
+layout-for-requires c κs = omega (arith, first-node _ _ (found (c .before)))
+
+check-planes-requires : tie.Need-check-planes-requires
+check-planes-requires c κs = opened _ _ (laid c)
 
 returns : tie.Need-returns
 unfolding gridCheck
@@ -22,9 +34,16 @@ returns c = rw (sym (c .before .before .before .«open» .ensures) ∙ ap opened
 
 returns-2 : tie.Need-returns-2
 unfolding gridCheck
-returns-2 c = rw (geometry (c .before .before)) (c .check-nodes .ensures)
+returns-2 c = rw (laid (c .before)) (c .check-planes .ensures)
 
 pub grid-check-spec : {M : Type 1} → statement M
 grid-check-spec =
     tie.close
-    (tie.spec (λ c κs. search needs) (λ c. search needs) (λ c. search needs) check-nodes-requires returns returns-2)
+    (tie.spec
+    (λ c κs. search needs)
+    (λ c. search needs)
+    (λ c. search needs)
+    layout-for-requires
+    check-planes-requires
+    returns
+    returns-2)

@@ -8,11 +8,13 @@ use Rattle.slopes.proofs.slope_passes.Statement.{statement}
 use Rattle.slopes.proofs.slope_passes.Tie as tie
 
 -- the three products
-products : (c : tie.Start) → let g = c .args .g in let s = c .args .s in let p = g .latitude .spacing in let q = g .longitude .spacing in
-    (s .north * q ≤ 2000000000000000) × (s .east * p ≤ 2000000000000000) × (p * q ≤ 10000000000000000)
+products : (c : tie.Start) → let s = c .args .s in let p = c .args .g .latitude .spacing in let q = c .args .g .longitude .spacing in
+    (s .northward * q ≤ 2000000000000000) × (s .eastward * p ≤ 2000000000000000) × (p * q ≤ 10000000000000000)
 products c =
-    let h = c .pre in
-    (mul-le-mul (h .2 .north-most) (h .1 .spacing-most), mul-le-mul (h .2 .east-most) (h .0 .spacing-most), mul-le-mul (h .0 .spacing-most) (h .1 .spacing-most))
+    let s = c .pre .1 in
+    let p = c .pre .0 .latitude .sized .spacing-most in
+    let q = c .pre .0 .longitude .sized .spacing-most in
+    (mul-le-mul (s .north-most) q, mul-le-mul (s .east-most) p, mul-le-mul p q)
 
 mul-result : tie.Need-mul-result
 mul-result c = omega (arith, products (c .before))

@@ -1,25 +1,40 @@
 -- `ways::convert` meets its contract: questions 1 to 6, then the conversion over the opened image.
 use mathlib.Core.Path.{_≡_, sym, ap, _∙_}
+use native.Mathlib.Omega.{arith}
 use denote.Ref.{now}
-use mir.Syntax.{w64}
-use Rattle.integers.specs.Machine.{kept}
+use mir.Facts.{toZ-ofZ}
 use Rattle.rules.specs.Answers.{values}
+use Rattle.rules.specs.Image.{layoutFor}
 use Rattle.rules.specs.Questions.{opening, openedOf}
 use Rattle.rules.specs.Ways.{convertOver, convert}
+use Rattle.rules.proofs.Opening.{opened, first-node}
 use borrow.Author.Needs.{needs}
 use Rattle.ways.proofs.convert.Statement.{statement}
 use Rattle.ways.proofs.convert.Tie as tie
 
-found : (c : tie.After-g) → opening (now (c .before .before .before .before .args .image)) ≡ values (c .g .given .0 .0)
-found c = sym (c .before .before .«open» .ensures) ∙ ap openedOf (c .g .given .1)
+-- the entry, from where the image is opened
+abbrev start : tie.After-open → tie.Start
+start c = c .before .before
+
+found : (c : tie.After-n) → opening (now (start (c .before .before) .args .image)) ≡ values (layoutFor (c .n .given .0 .0))
+found c = sym (c .before .before .«open» .ensures) ∙ ap openedOf (c .n .given .1)
+
+layout-for-requires : tie.Need-layout-for-requires
+layout-for-requires c κs = omega (arith, first-node _ _ (found (c .before)))
+
+-- the layout that is handed on
+laid : (c : tie.After-layout-for) → opening (now (start (c .before .before .before .before) .args .image)) ≡ values (c .layout-for .result)
+laid c = found (c .before .before) ∙ ap values (sym (c .layout-for .ensures))
 
 convert-over-requires : tie.Need-convert-over-requires
-convert-over-requires c κs = found (c .before)
+convert-over-requires c κs = opened _ _ (laid c)
 
 returns : tie.Need-returns
 unfolding convert
-returns c = let s = c .before .before .before .before .before .before in
-    rw (found (c .before .before)) (c .convert-over .ensures ∙ ap (convertOver _ _ _) (kept w64 (s .args .height) (s .fits .height .sfits)))
+returns c =
+    let l = c .before in
+    let s = start (l .before .before .before .before) in
+    rw (laid l) (c .convert-over .ensures ∙ ap (convertOver _ _ _) (toZ-ofZ (s .fits .height)))
 
 returns-2 : tie.Need-returns-2
 unfolding convert
@@ -28,4 +43,11 @@ returns-2 c = rw (sym (c .before .before .before .«open» .ensures) ∙ ap open
 pub convert-spec : {M : Type 1} → statement M
 convert-spec =
     tie.close
-    (tie.spec (λ c κs. search needs) (λ c. search needs) convert-over-requires (λ c. search needs) returns returns-2)
+    (tie.spec
+    (λ c κs. search needs)
+    (λ c. search needs)
+    layout-for-requires
+    convert-over-requires
+    (λ c. search needs)
+    returns
+    returns-2)

@@ -1,0 +1,2 @@
+-- What the contracts of an axis cite.
+pub mod Place

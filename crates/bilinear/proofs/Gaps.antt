@@ -1,0 +1,119 @@
+-- Corners by how far they lie above an integer: the weighted sum and the value lie above it by those of these natural numbers.
+use mathlib.Core.Bool.{Bool, true, false, cond}
+use mathlib.Core.Path.{_≡_, refl, ap}
+use Prim.Native.Nat.{ℕ, _+_, _-_, _*_, _≤_, _<_}
+use native.Mathlib.Omega.{arith}
+use lib.IntN.{ℤ, pos, natAbs, _+ℤ_, _*ℤ_}
+use lib.Signed.{leZ, _≤ℤ_}
+use mir.Syntax.{w64}
+use mir.Val.{SFits, toZ, ofZ}
+use mir.Facts.{toZ-ofZ}
+use Rattle.integers.specs.Distance.{abs-is}
+use Rattle.integers.specs.Machine.{zarith}
+use Rattle.integers.specs.Difference.{up, down, order, Difference, var, lit, _⊕_, _⊗_}
+use Rattle.integers.specs.Rounding.{Round, roundHalfUp, round-of, round-is, round-bound}
+use Rattle.rules.specs.declared.Square.{Square}
+use Rattle.rules.specs.Units.{correctionLimit}
+use Rattle.rules.specs.Limits.{CornersWithin}
+use Rattle.rules.specs.Bilinear.{weighted, bilinear}
+use Rattle.rules.proofs.Weights.{weights}
+use Rattle.bilinear.specs.Mean.{InCell, Below, minimum, leastOf, cornerMix, mean}
+use Rattle.bilinear.proofs.Mixes.{cell-area, corner-mix-most}
+
+-- Corner values by how far they lie above b.
+pub record Gaps (b : ℤ) (c : Square) (sw se nw ne : ℕ) : Type 0 where
+  pub southwest : c .southwest ≡ b +ℤ pos sw
+  pub southeast : c .southeast ≡ b +ℤ pos se
+  pub northwest : c .northwest ≡ b +ℤ pos nw
+  pub northeast : c .northeast ≡ b +ℤ pos ne
+
+-- A corner is read back by the machine as it is.
+pub read-corner : (z : ℤ) → natAbs z ≤ correctionLimit → toZ w64 (ofZ w64 z) ≡ z
+read-corner z h = let f : SFits w64 z = omega (zarith, abs-is (var z)) in toZ-ofZ f
+
+-- The least corner is at most each, and as near to zero as they are.
+pub record Under (M : ℕ) (l : ℤ) (c : Square) : Type 0 where
+  pub near : natAbs l ≤ M
+  pub southwest : l ≤ℤ c .southwest
+  pub southeast : l ≤ℤ c .southeast
+  pub northwest : l ≤ℤ c .northwest
+  pub northeast : l ≤ℤ c .northeast
+
+record Lesser (M : ℕ) (l a b : ℤ) : Type 0 where
+  near : natAbs l ≤ M
+  first : l ≤ℤ a
+  second : l ≤ℤ b
+
+lesser : (M : ℕ) (a b : ℤ) → natAbs a ≤ M → natAbs b ≤ M → (t : Bool) → leZ a b ≡ t → Lesser M (cond t a b) a b
+lesser M a b h k true e = record { near = h; first = omega zarith; second = omega zarith }
+lesser M a b h k false e = record { near = k; first = omega zarith; second = omega zarith }
+
+pub under : {M : ℕ} {c : Square} → CornersWithin M c → Under M (leastOf c) c
+under {M} {c} w =
+    let south = minimum (c .southwest) (c .southeast) in
+    let north = minimum (c .northwest) (c .northeast) in
+    let s : Lesser M south (c .southwest) (c .southeast) = lesser M (c .southwest) (c .southeast) (w .southwest) (w .southeast) _ refl in
+    let n : Lesser M north (c .northwest) (c .northeast) = lesser M (c .northwest) (c .northeast) (w .northwest) (w .northeast) _ refl in
+    let l : Lesser M (leastOf c) south north = lesser M south north (s .near) (n .near) _ refl in
+    record { near = l .near; southwest = omega zarith; southeast = omega zarith; northwest = omega zarith; northeast = omega zarith }
+
+-- Of values within a limit of zero, no gap is wider than twice the limit.
+gap-most : {M n : ℕ} (b x : ℤ) → natAbs b ≤ M → natAbs x ≤ M → x ≡ b +ℤ pos n → n ≤ 2 * M
+gap-most {M} {n} b x h k e = omega (arith, order, var b ⊕ lit n, abs-is (var b), abs-is (var x))
+
+pub gaps-most : {M : ℕ} {c : Square} {sw se nw ne : ℕ} (b : ℤ) → natAbs b ≤ M → CornersWithin M c → Gaps b c sw se nw ne
+    → Below (2 * M) sw se nw ne
+gaps-most {c = c} b h w g =
+    record {
+      southwest = gap-most b (c .southwest) h (w .southwest) (g .southwest);
+      southeast = gap-most b (c .southeast) h (w .southeast) (g .southeast);
+      northwest = gap-most b (c .northwest) h (w .northwest) (g .northwest);
+      northeast = gap-most b (c .northeast) h (w .northeast) (g .northeast);
+    }
+
+-- x from b and n
+abbrev sum-of : (x b : ℤ) (n : ℕ) → x ≡ b +ℤ pos n → Difference x
+sum-of x b n e = record { hi = up b + n; lo = down b; is = omega (arith, order, var b ⊕ lit n) }
+
+-- another difference for what has the form d
+same-form : {z : ℤ} (d : Difference z) (a b : ℕ) → d .hi + b ≡ a + d .lo → up z + b ≡ a + down z
+same-form d a b h = omega (arith, d .is)
+
+-- The weighted sum is that of the natural numbers, and b times the weights above it.
+sum-above : (x y z t b : ℤ) (k l m n a u e v K : ℕ) → x ≡ b +ℤ pos k → y ≡ b +ℤ pos l → z ≡ b +ℤ pos m → t ≡ b +ℤ pos n
+    → a * e + a * v + u * e + u * v ≡ K
+    → let s = x *ℤ pos (a * e) +ℤ y *ℤ pos (a * v) +ℤ z *ℤ pos (u * e) +ℤ t *ℤ pos (u * v) in
+    up s + down b * K ≡ up b * K + (a * (e * k + v * l) + u * (e * m + v * n)) + down s
+sum-above x y z t b k l m n a u e v K ex ey ez et h =
+    let south = sum-of x b k ex ⊗ lit (a * e) ⊕ sum-of y b l ey ⊗ lit (a * v) in
+    same-form (south ⊕ sum-of z b m ez ⊗ lit (u * e) ⊕ sum-of t b n et ⊗ lit (u * v))
+    (up b * K + (a * (e * k + v * l) + u * (e * m + v * n))) (down b * K)
+    (omega (arith, ap (λ (i : ℕ). up b * i) h, ap (λ (i : ℕ). down b * i) h))
+
+-- What lies b times K above s is rounded to b above what s is.
+round-above : (n b : ℤ) (s r K : ℕ) → 0 < K → up n + down b * K ≡ up b * K + s + down n → pos r ≡ roundHalfUp (pos s) K
+    → roundHalfUp n K ≡ b +ℤ pos r
+round-above n b s r K h e k =
+    let d = var b ⊕ lit r in
+    let g : Round K (pos s) (pos r) = rw k (round-of (pos s) K h) in
+    let f : Round K n (b +ℤ pos r) = omega (arith, ap (λ (x : ℕ). K * x) (d .is)) in
+    round-is h f
+
+-- The value lies above b by the rounded mean of the gaps.
+module _ {c : Square} {u v P Q : ℕ} (cell : InCell u v P Q) where
+  pub value-above : {b : ℤ} {sw se nw ne r : ℕ} → Gaps b c sw se nw ne → pos r ≡ mean sw se nw ne u v P Q
+      → bilinear c u v P Q ≡ b +ℤ pos r
+  unfolding bilinear weighted
+  value-above {b} {sw} {se} {nw} {ne} {r} g e =
+      let sum =
+      sum-above (c .southwest) (c .southeast) (c .northwest) (c .northeast) b sw se nw ne (P - u) u (Q - v) v (P * Q)
+      (g .southwest) (g .southeast) (g .northwest) (g .northeast) (weights (cell .u-most) (cell .v-most))
+      in
+      round-above (weighted c u v P Q) b (cornerMix sw se nw ne u v P Q) r (P * Q) (cell-area cell) sum e
+
+-- That mean is no larger than the largest gap.
+pub mean-most : {sw se nw ne u v P Q r : ℕ} → InCell u v P Q → Below (2 * correctionLimit) sw se nw ne
+    → pos r ≡ mean sw se nw ne u v P Q → r ≤ 2 * correctionLimit
+mean-most {sw} {se} {nw} {ne} {u} {v} {P} {Q} cell b e =
+    let sum = cornerMix sw se nw ne u v P Q in
+    rw (← e) at (round-bound (pos sum) (P * Q) (2 * correctionLimit) (cell-area cell) (corner-mix-most cell b))

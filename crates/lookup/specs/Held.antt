@@ -1,0 +1,132 @@
+-- The cell around a point as it is read from an image, which points lie in such a cell, and the corrections there.
+use mathlib.Core.Bool.{Bool, true, _&&_}
+use mathlib.Core.List.{List}
+use mathlib.Core.Path.{_≡_}
+use Prim.Native.Nat.{ℕ, _-_, _*_, _≤_}
+use lib.IntN.{ℤ}
+use lib.ListN.{length}
+use Rattle.rules.specs.declared.Axis.{Axis}
+use Rattle.rules.specs.declared.Geometry.{Geometry}
+use Rattle.rules.specs.declared.Plane.{Plane}
+use Rattle.rules.specs.declared.Layout.{Layout}
+use Rattle.rules.specs.declared.Point.{Point}
+use Rattle.rules.specs.declared.Square.{Square}
+use Rattle.rules.specs.declared.Correction.{Correction}
+use Rattle.rules.specs.Units.{correctionLimit, quasiGeoidLimit}
+use Rattle.rules.specs.Answers.{Outcome, values, ask}
+use Rattle.rules.specs.Image.{Grid, gridOf}
+use Rattle.rules.specs.Limits.{GeometryPasses, Open}
+use Rattle.rules.specs.Bilinear.{offset, cellFor, corners, bilinear}
+use Rattle.rules.specs.Lookup.{inside, squarePasses}
+use Rattle.axis.specs.Place.{reaches}
+use Rattle.bilinear.specs.Mean.{InCell}
+use Rattle.lookup.specs.declared.HeldCell.{HeldCell}
+use Rattle.rules.specs.declared.Run.{Run}
+use Rattle.rules.specs.declared.Runs.{Runs}
+use Rattle.lookup.specs.declared.Offsets.{Offsets}
+use Rattle.lookup.specs.declared.PlaceInCell.{PlaceInCell}
+
+-- A plane's first byte and stride, those of a layout's planes, and the plane that they are with a geometry.
+abbrev pub runOf : Plane → Run
+runOf p = record { first = p .first; stride = p .stride }
+
+abbrev pub runsOf : Layout → Runs
+runsOf l = record { latitude = runOf (l .latitude); longitude = runOf (l .longitude); height = runOf (l .height) }
+
+abbrev pub planeOf : Geometry → Run → Plane
+planeOf g r = record { geometry = g; first = r .first; stride = r .stride }
+
+-- The layout of three planes with one geometry.
+abbrev pub layoutFrom : Geometry → Runs → Layout
+layoutFrom g r = record { latitude = planeOf g (r .latitude); longitude = planeOf g (r .longitude); height = planeOf g (r .height) }
+
+-- A square of four corner values.
+abbrev pub square : (sw se nw ne : ℤ) → Square
+square sw se nw ne = record { southwest = sw; southeast = se; northwest = nw; northeast = ne }
+
+-- Question 9 of the three values at a cell's corners.
+unfoldable pub cornersPass : (latitude longitude height : Square) → Bool
+cornersPass latitude longitude height =
+    squarePasses correctionLimit latitude && (squarePasses correctionLimit longitude && squarePasses quasiGeoidLimit height)
+
+-- The offset of the south or west side of an angle's cell.
+abbrev pub sideFor : Axis → ℤ → ℕ
+sideFor a z = cellFor a z * a .spacing
+
+-- The cell of a row and a column, whose sides have these offsets.
+unfoldable pub heldCell : Grid → (row column south west : ℕ) → HeldCell
+heldCell g row column south west =
+    let latitude = corners (g .latitude) row column in
+    let longitude = corners (g .longitude) row column in
+    let height = corners (g .height) row column in
+    record {
+      south = south;
+      west = west;
+      latitude = latitude;
+      longitude = longitude;
+      height = height;
+      passes = cornersPass latitude longitude height;
+    }
+
+-- The cell of a point in the bounds; a and o are the latitude and the longitude axis.
+unfoldable pub heldAt : Grid → Point → HeldCell
+heldAt g p =
+    let a = g .corrections .latitude in
+    let o = g .corrections .longitude in
+    heldCell g (cellFor a (p .latitude)) (cellFor o (p .longitude)) (sideFor a (p .latitude)) (sideFor o (p .longitude))
+
+-- A point in the bounds of a geometry that questions 3 to 5 let pass.
+pub record Bounded (g : Geometry) (p : Point) : Type 0 where
+  pub geometry : GeometryPasses g
+  pub point : inside g p ≡ true
+
+-- An image that is open with a layout, and a point in its bounds.
+pub record OpenAround (b : List ℕ) (l : Layout) (p : Point) : Type 0 where
+  pub layout : Open (length b) l
+  pub point : inside (l .latitude .geometry) p ≡ true
+
+-- How far a point in the bounds lies from the south and the west bound.
+abbrev pub offsetsOf : Geometry → Point → Offsets
+offsetsOf g p = record { northing = offset (g .latitude) (p .latitude); easting = offset (g .longitude) (p .longitude) }
+
+-- The place of a point in a held cell.
+abbrev pub placeIn : HeldCell → Geometry → Point → PlaceInCell
+placeIn h g p =
+    record { u = offsetsOf g p .northing - h .south; v = offsetsOf g p .easting - h .west }
+
+-- A place in a cell of the geometry, its sides included.
+abbrev pub InCellOf : Geometry → PlaceInCell → Type 0
+InCellOf g at = InCell (at .u) (at .v) (g .latitude .spacing) (g .longitude .spacing)
+
+-- A point at or past both sides of a held cell, and less than one spacing from each.
+unfoldable pub liesIn : HeldCell → Geometry → Point → Bool
+liesIn h g p =
+    reaches (h .south) (g .latitude .spacing) (offsetsOf g p .northing)
+    && reaches (h .west) (g .longitude .spacing) (offsetsOf g p .easting)
+
+-- A held cell is the one around a point, where the point lies in it.
+abbrev pub HeldFor : HeldCell → List ℕ → Layout → Point → Type 0
+HeldFor h b l p = liesIn h (l .latitude .geometry) p ≡ true → h ≡ heldAt (gridOf b l) p
+
+-- A held cell holds a point in the bounds that is at or past both of its sides, and at most one spacing from each. The cell's answer to
+-- question 9 is that of its corners.
+pub record Holds (h : HeldCell) (g : Geometry) (p : Point) : Type 0 where
+  pub bounded : Bounded g p
+  pub south : h .south ≤ offsetsOf g p .northing
+  pub west : h .west ≤ offsetsOf g p .easting
+  pub place : InCellOf g (placeIn h g p)
+  pub asked : h .passes ≡ cornersPass (h .latitude) (h .longitude) (h .height)
+
+-- The bilinear value of a square's corners, at a point's place in a held cell.
+unfoldable pub valueBetween : Square → HeldCell → Geometry → Point → ℤ
+valueBetween c h g p =
+    let at = placeIn h g p in
+    bilinear c (at .u) (at .v) (g .latitude .spacing) (g .longitude .spacing)
+
+-- The height there, after question 9.
+abbrev pub heightIn : HeldCell → Geometry → Point → Outcome ℤ
+heightIn h g p = ask (h .passes) 9 (values (valueBetween (h .height) h g p))
+
+-- The corrections there.
+abbrev pub correctionsIn : HeldCell → Geometry → Point → Correction
+correctionsIn h g p = record { latitude = valueBetween (h .latitude) h g p; longitude = valueBetween (h .longitude) h g p }

@@ -1,0 +1,2 @@
+-- What the contracts of an opened image cite.
+pub mod Over

@@ -1,0 +1,47 @@
+-- A trip: grid check, way out and way back in turn, and what the return promise says of one that returns.
+use mathlib.Core.List.{List}
+use mathlib.Core.Path.{_≡_}
+use Prim.Native.Nat.{ℕ, _≤_}
+use lib.IntN.{ℤ, natAbs}
+use Rattle.rules.specs.declared.Layout.{Layout}
+use Rattle.rules.specs.declared.Findings.{Findings}
+use Rattle.rules.specs.declared.Point.{Point}
+use Rattle.rules.specs.declared.Position.{Position}
+use Rattle.rules.specs.declared.Trip.{Trip}
+use Rattle.rules.specs.declared.TripAnswer.{TripAnswer}
+use Rattle.rules.specs.declared.TripAnswer.the-variants as trip-answer
+use Rattle.rules.specs.Units.{outHeightLimit, fixMargin}
+use Rattle.rules.specs.Answers.{Outcome, values, number, numberOf, andThen}
+use Rattle.rules.specs.Questions.{opening}
+use Rattle.rules.specs.Ways.{wayBack, wayOut}
+use Rattle.rules.specs.Check.{gridCheck}
+use Rattle.rules.specs.Promise.{Margins, pointOf, Returns}
+
+-- The second way takes the two angles and the height that the first one answered.
+unfoldable pub takenBack : List ℕ → Position → Outcome Trip
+takenBack b a = andThen (wayBack b (pointOf a) (a .height)) (λ r. values (record { outward = a; returned = r }))
+
+-- Out, then back.
+unfoldable pub outThenBack : List ℕ → Point → ℤ → Outcome Trip
+outThenBack b p h = andThen (wayOut b p h) (λ a. takenBack b a)
+
+-- Grid check, then out and back.
+unfoldable pub trip : List ℕ → Point → ℤ → Outcome Trip
+trip b p h = andThen (gridCheck b) (λ f. outThenBack b p h)
+
+-- The code's answer, in these terms.
+abbrev pub tripOf : TripAnswer → Outcome Trip
+tripOf (trip-answer.Returned t) = values t
+tripOf (trip-answer.Refused r) = number (numberOf r)
+
+-- A trip keeps the promise where it returns as the promise says; a refusal does not.
+abbrev pub Keeps : List ℕ → Point → ℤ → TripAnswer → Type 0
+Keeps b p h (trip-answer.Returned t) = Returns b p h (t .outward) (t .returned)
+Keeps b p h (trip-answer.Refused r) = ⊥
+
+-- What the promise says of the trip of any fix: it keeps the promise where the image opens and passes the check, the fix is at least
+-- 10,000,000 nd inside all four bounds, and its height is in limits.
+abbrev pub KeepsWhere : List ℕ → Point → ℤ → TripAnswer → Type 0
+KeepsWhere b p h r =
+    (l : Layout) (f : Findings) → opening b ≡ values l → gridCheck b ≡ values f
+    → Margins fixMargin l p → natAbs h ≤ outHeightLimit → Keeps b p h r

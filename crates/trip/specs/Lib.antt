@@ -1,2 +1,0 @@
--- What the contract of a trip cites.
-pub mod Trip

@@ -1,0 +1,2 @@
+-- What the contract of an evaluation cites.
+pub mod Turn
