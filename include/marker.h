@@ -4,23 +4,8 @@
  * Each function checks all that it is given: callers check nothing beforehand. A pointer refers to as many elements as its
  * length says, or as the declaration does; what is written overlaps nothing else that is passed. Where the length is 0, any
  * non-null pointer will do.
- * A function gives 0, or the number of the first of document 01's questions put to the call whose answer is no; then what it was
- * lent is unchanged. A list call puts 14 right after 6; 7 to 11 are put to each fix and stand in that fix's answer.
- * What each number says:
- *    1  the image has fewer than 40 bytes
- *    2  its edition is not 1
- *    3  its rows or columns are not from 2 to 4,096
- *    4  a spacing is not from 1 to 100,000,000
- *    5  a bound lies past 90 degrees (south, north) or 180 degrees (west, east) from zero
- *    6  back is not 12 * rows * columns + 40, or is above the image's length
- *    7  the fix's latitude is past 90 degrees, its longitude past 180, or its height past 100,000,000 (out) or 110,000,000 (back)
- *    8  the fix's point is not in the image's bounds
- *    9  a correction past 10,000,000 or a height past 1,000,000 at a corner of a cell used, or at any node in the grid check
- *   10  out: one of the points p1 to p5 is not in the bounds
- *   11  out: the stop rule has not held after five evaluations
- *   12  grid check: 100 * (A * Q + B * P) is above P * Q for a value; A, B its findings, P, Q the latitude and longitude spacing
- *   13  notation: minutes or seconds not below 60, a letter not of the axis, or an angle past 90 or 180 degrees from zero
- *   14  list: the fixes' length is not 3 * n and the answers' length 5 * n for the same n
+ * A function gives MARKER_DONE, or the number of the first of document 01's questions put to the call whose answer is no; then
+ * what it was lent is unchanged. A list call puts 14 right after 6; 7 to 11 are put to each fix and stand in that fix's answer.
  */
 #ifndef MARKER_H
 #define MARKER_H
@@ -33,28 +18,119 @@
 extern "C" {
 #endif
 
-/* The grid check. A pass (0) writes the largest absolute steps between neighbours: in latitude and in longitude, of latitude
- * correction (nd), of longitude correction (nd) and of quasi-geoid height (units). Else 1 to 6, 9 or 12. */
-int64_t marker_grid_check(const uint8_t *image, size_t image_len, int64_t findings[6]);
+/* What a function gives, and what stands in an answer of a list: document 01's numbers. */
+enum marker_number {
+    MARKER_DONE = 0,
+    MARKER_REFUSED_IMAGE_LENGTH = 1,     /* the image has fewer than 40 bytes */
+    MARKER_REFUSED_EDITION = 2,          /* its edition is not 1 */
+    MARKER_REFUSED_NODE_COUNT = 3,       /* its rows or columns are not from 2 to 4,096 */
+    MARKER_REFUSED_SPACING = 4,          /* a spacing is not from 1 to 100,000,000 */
+    MARKER_REFUSED_GRID_BOUNDS = 5,      /* a bound lies past 90 degrees (south, north) or 180 degrees (west, east) from zero */
+    MARKER_REFUSED_NODE_BYTES = 6,       /* back is not 12 * rows * columns + 40, or is above the image's length */
+    MARKER_REFUSED_FIX_LIMITS = 7,       /* the fix's latitude is past 90 degrees, its longitude past 180, or its height past
+                                            100,000,000 (out) or 110,000,000 (back) */
+    MARKER_REFUSED_OUTSIDE_BOUNDS = 8,   /* the fix's point is not in the image's bounds */
+    MARKER_REFUSED_NODE_LIMITS = 9,      /* a correction past 10,000,000 or a height past 1,000,000 at a corner of a cell used, or
+                                            at any node in the grid check */
+    MARKER_REFUSED_ITERATE_OUTSIDE = 10, /* out: one of the points p1 to p5 is not in the bounds */
+    MARKER_REFUSED_NOT_SETTLED = 11,     /* out: the stop rule has not held after five evaluations */
+    MARKER_REFUSED_SLOPE = 12,           /* grid check: 100 * (A * Q + B * P) is above P * Q for a value; A and B its findings
+                                            northward and eastward, P and Q the latitude and longitude spacing */
+    MARKER_REFUSED_BAD_NOTATION = 13,    /* minutes or seconds not below 60, a letter not of the axis, or an angle past 90 or 180
+                                            degrees from zero */
+    MARKER_REFUSED_LIST_LENGTHS = 14     /* the fixes' length is not 3 * n and the answers' length 5 * n for the same n */
+};
 
-/* Converts all fixes from ETRS89 and ellipsoidal height to Bessel and NAP. A fix is three numbers: latitude, longitude, height.
- * An answer is five: latitude, longitude, height, the count of grid evaluations, and 0; a refused fix gets four zeros and its
- * number (7 to 11), and does not end the list. Gives 0, or 1 to 6 or 14 with the answers unchanged. */
+/* An image, in bytes; its numbers are little-endian. Bytes before the first node have no meaning. Then come rows * columns nodes:
+ * the southern row first, each row from west to east. The trailer ends the image.
+ *
+ *   node     0  int32_t   latitude correction, nd
+ *            4  int32_t   longitude correction, nd
+ *            8  int32_t   quasi-geoid height, units
+ *
+ *   trailer  0  int64_t   southern latitude, nd
+ *            8  int64_t   western longitude, nd
+ *           16  uint32_t  latitude spacing, nd
+ *           20  uint32_t  longitude spacing, nd
+ *           24  uint32_t  rows
+ *           28  uint32_t  columns
+ *           32  uint32_t  back: the distance from the image's end to the first node, 12 * rows * columns + 40
+ *           36  uint32_t  edition: 1
+ */
+enum {
+    MARKER_NODE_LENGTH = 12,
+    MARKER_TRAILER_LENGTH = 40
+};
+
+/* What stands where in a fix, which ends after its height, and in an answer. A refused fix's answer is four zeros and the number. */
+enum {
+    MARKER_LATITUDE = 0,
+    MARKER_LONGITUDE = 1,
+    MARKER_HEIGHT = 2,
+    MARKER_COUNT = 3,  /* the evaluations of the grid: 1 to 5 going out, 1 going back */
+    MARKER_NUMBER = 4, /* MARKER_DONE, or 7 to 11 going out; 7, 8 or 9 going back */
+    MARKER_FIX_LENGTH = 3,
+    MARKER_ANSWER_LENGTH = 5
+};
+
+/* What stands where in the findings: the largest absolute step of a value (latitude correction and longitude correction in nd,
+ * quasi-geoid height in units) between neighbours in latitude (northward) and in longitude (eastward). */
+enum {
+    MARKER_LATITUDE_NORTHWARD = 0,
+    MARKER_LATITUDE_EASTWARD = 1,
+    MARKER_LONGITUDE_NORTHWARD = 2,
+    MARKER_LONGITUDE_EASTWARD = 3,
+    MARKER_HEIGHT_NORTHWARD = 4,
+    MARKER_HEIGHT_EASTWARD = 5,
+    MARKER_FINDINGS_LENGTH = 6
+};
+
+/* What stands where in a notation. */
+enum {
+    MARKER_DEGREES = 0,
+    MARKER_MINUTES = 1,
+    MARKER_HUNDRED_THOUSANDTHS = 2, /* of a second */
+    MARKER_LETTER = 3,              /* the byte of N or S for latitudes, of E or W for longitudes */
+    MARKER_NOTATION_LENGTH = 4
+};
+
+/* What the library needs, in bytes. The figures are those of the archive that `rt staticlib marker` writes (tests/footprint), and no
+ * call was seen to write more of the stack (tests/stack).
+ *
+ * The archive is for x86-64 Linux: ELF, System V calling convention. It needs no other library, not even C's: it has no undefined
+ * symbol. It makes no system call and uses no heap. It has no writable data, so calls may run at the same time, also one within
+ * another.
+ *
+ * The code is that of all functions with their constants, without what a linker puts between functions to begin each at a multiple
+ * of 16. The stack of a call counts from the stack pointer before the call instruction: the return address, all that is pushed and
+ * reserved below it, and what is used of the red zone, the 128 bytes below the stack pointer that no handler may touch. It does not
+ * grow with the image or the list. */
+enum {
+    MARKER_CODE_BYTES = 7754,
+    MARKER_GRID_CHECK_STACK = 144,
+    MARKER_LIST_OUT_STACK = 1080,
+    MARKER_LIST_BACK_STACK = 1080,
+    MARKER_READ_NOTATION_STACK = 8,
+    MARKER_WRITE_NOTATION_STACK = 8
+};
+
+/* The grid check. Gives 0 with the findings written, or 1 to 6, 9 or 12. */
+int64_t marker_grid_check(const uint8_t *image, size_t image_len, int64_t findings[MARKER_FINDINGS_LENGTH]);
+
+/* Converts all fixes from ETRS89 and ellipsoidal height to Bessel and NAP, each to the answer at its place in the list. A refused
+ * fix does not end the list. Gives 0, or 1 to 6 or 14. */
 int64_t marker_list_out(const uint8_t *image, size_t image_len, const int64_t *fixes, size_t fixes_len, int64_t *answers,
                         size_t answers_len);
 
-/* Converts all fixes back, from Bessel and NAP to ETRS89 and ellipsoidal height. As above, but the count is always 1 and a refused
- * fix's number is 7, 8 or 9. */
+/* Converts all fixes back, from Bessel and NAP to ETRS89 and ellipsoidal height; else as above. */
 int64_t marker_list_back(const uint8_t *image, size_t image_len, const int64_t *fixes, size_t fixes_len, int64_t *answers,
                          size_t answers_len);
 
-/* Reads degrees, minutes and hundred-thousandths of a second with a letter (N or S for latitudes, E or W for longitudes) as nd.
- * `longitude` is true for longitudes, false for latitudes. Gives 0, or 13. */
+/* Reads the four parts of a notation as an angle in nd. `longitude` is true for longitudes, false for latitudes. Gives 0, or 13. */
 int64_t marker_read_notation(bool longitude, uint64_t degrees, uint64_t minutes, uint64_t hundred_thousandths, uint8_t letter, int64_t *nd);
 
-/* Writes an angle as degrees, minutes, hundred-thousandths of a second and the byte of its letter. `longitude` as above. Gives 0,
- * or 13. */
-int64_t marker_write_notation(bool longitude, int64_t nd, uint64_t notation[4]);
+/* Writes an angle as a notation. `longitude` as above. Gives 0, or 13. */
+int64_t marker_write_notation(bool longitude, int64_t nd, uint64_t notation[MARKER_NOTATION_LENGTH]);
 
 #ifdef __cplusplus
 }

@@ -1,21 +1,21 @@
-//! That the implementations answer alike: the two over whole numbers exactly, PROJ nearly.
+//! That the implementations answer alike: the two over whole numbers exactly, those over f64 nearly.
 
 use crate::proj::{self, Pipeline};
 use bench::grid::Grid;
-use bench::{fixes, Implementation, Way};
+use bench::{fixes, library, plain, GridCheck, Implementation, Way};
 
 /// Fixes on, near and past bounds and limits that are compared beside those of the measurement.
 pub const OTHER_FIXES: usize = 10_000;
 
-/// The largest differences of PROJ's answers from the library's: angles in nd, heights in units
-/// of 0.0001 m.
+/// The largest differences of answers from the library's: angles in nd, heights in units of
+/// 0.0001 m.
 #[derive(Clone, Copy, Debug, Default)]
 pub struct Distance {
     pub angle: f64,
     pub height: f64,
 }
 
-/// Compares every answer and the grid check of the library and the plain implementation.
+/// Compares every answer and the grid check of the library and the i128 implementation.
 pub fn require(grid: &Grid, fixes: &[i64]) {
     let other = fixes::anywhere(&grid.geometry, OTHER_FIXES);
     for way in [Way::Out, Way::Back] {
@@ -25,31 +25,44 @@ pub fn require(grid: &Grid, fixes: &[i64]) {
             assert!(found == expected, "the answers {way:?} differ");
         }
     }
-    let [found, expected] = [Implementation::Library, Implementation::Plain].map(|it| {
+    let checks: [GridCheck; 2] = [library::grid_check, plain::grid_check];
+    let [found, expected] = checks.map(|grid_check| {
         let mut findings = [-1; 6];
-        (it.grid_check(&grid.image, &mut findings), findings)
+        (grid_check(&grid.image, &mut findings), findings)
     });
     assert_eq!(found, expected, "the grid checks differ");
     assert_eq!(found.0, 0, "the grid does not pass");
 }
 
-/// How far PROJ's answers lie from the library's. Every fix must be answered.
-pub fn distance(grid: &Grid, pipeline: &Pipeline, fixes: &[i64]) -> Distance {
-    let mut largest = Distance::default();
+/// How far the answers of the f64 implementation and PROJ's lie from the library's. Every fix must
+/// be answered.
+pub fn distances(grid: &Grid, pipeline: &Pipeline, fixes: &[i64]) -> [Distance; 2] {
+    let mut largest = [Distance::default(); 2];
     for way in [Way::Out, Way::Back] {
         let answers = list_of(Implementation::Library, way, grid, fixes);
+        let floating = list_of(Implementation::Floating, way, grid, fixes);
         let mut positions = proj::positions(fixes);
         pipeline.convert(way, &mut positions);
-        for (answer, position) in answers.chunks_exact(5).zip(&positions) {
+        let others = floating.chunks_exact(5).zip(&positions);
+        for (answer, (near, position)) in answers.chunks_exact(5).zip(others) {
             assert_eq!(answer[4], 0, "a fix is refused");
-            let north = (position[1] * 1e9 - answer[0] as f64).abs();
-            let east = (position[0] * 1e9 - answer[1] as f64).abs();
-            let up = (position[2] * 1e4 - answer[2] as f64).abs();
-            largest.angle = largest.angle.max(north).max(east);
-            largest.height = largest.height.max(up);
+            largest[0].widen(answer, [near[0], near[1], near[2]].map(|it| it as f64));
+            largest[1].widen(
+                answer,
+                [position[1] * 1e9, position[0] * 1e9, position[2] * 1e4],
+            );
         }
     }
     largest
+}
+
+impl Distance {
+    /// With the distance of another answer, in nd and units, from the library's.
+    fn widen(&mut self, answer: &[i64], other: [f64; 3]) {
+        let [north, east, up] = [0, 1, 2].map(|k| (other[k] - answer[k] as f64).abs());
+        self.angle = self.angle.max(north).max(east);
+        self.height = self.height.max(up);
+    }
 }
 
 fn list_of(implementation: Implementation, way: Way, grid: &Grid, fixes: &[i64]) -> Vec<i64> {

@@ -1,31 +1,36 @@
-//! Instructions of one conversion out, counted by callgrind: of a list call with two fixes less
-//! those of the call with one.
+//! Instructions of one conversion, counted by callgrind: of a list call with two fixes less those
+//! of the call with one.
 
 use crate::speeds::SIZES;
 use std::env;
 use std::process::Command;
 
-/// Instructions of one conversion out, of the library and of the plain implementation.
+/// Instructions of one conversion, of the library, the i128 and the f64 implementation.
+pub type Three = [u64; 3];
+
 pub struct Counts {
-    /// At the counts 1 to 5.
-    pub by_count: Vec<[u64; 2]>,
-    /// At the count 1, by grid size.
-    pub by_size: Vec<[u64; 2]>,
+    /// Out, at the counts 1 to 5.
+    pub by_count: Vec<Three>,
+    /// Out at the count 1, by grid size.
+    pub by_size: Vec<Three>,
+    /// Back.
+    pub back: Three,
 }
 
 pub fn count() -> Counts {
     eprintln!("instructions");
-    let by_count = (1..=5).map(|count| conversion(&format!("count {count}")));
-    let by_size = SIZES.map(|(rows, columns)| conversion(&format!("size {rows} {columns}")));
+    let by_count = (1..=5).map(|count| conversion(&format!("out count {count}")));
+    let by_size = SIZES.map(|(rows, columns)| conversion(&format!("out size {rows} {columns}")));
     Counts {
         by_count: by_count.collect(),
         by_size: by_size.to_vec(),
+        back: conversion("back count 1"),
     }
 }
 
-/// Instructions of one conversion of a case, by both implementations.
-fn conversion(case: &str) -> [u64; 2] {
-    ["library", "plain"].map(|implementation| {
+/// Instructions of one conversion of a case, by each implementation.
+fn conversion(case: &str) -> Three {
+    ["library", "plain", "floating"].map(|implementation| {
         let one = instructions(&format!("{implementation} {case} 1"));
         let two = instructions(&format!("{implementation} {case} 2"));
         two - one

@@ -1,6 +1,6 @@
 //! The plot, in SVG: one panel for each table, with a scale of powers of ten.
 
-use crate::counts::Counts;
+use crate::counts::{Counts, Three};
 use crate::speeds::{Conversions, Speeds, LENGTHS, SIZES};
 use crate::table::size_words;
 use std::fmt::Write;
@@ -18,8 +18,8 @@ struct Line {
     values: Vec<f64>,
 }
 
-const NAMES: [&str; 3] = ["library", "i128", "PROJ"];
-const COLOURS: [&str; 3] = ["#1f5fa8", "#d9822b", "#5a8f3d"];
+const NAMES: [&str; 4] = ["library", "i128", "f64", "PROJ"];
+const COLOURS: [&str; 4] = ["#1f5fa8", "#d9822b", "#8a4fa3", "#5a8f3d"];
 const PANEL_WIDTH: f64 = 460.0;
 const PANEL_HEIGHT: f64 = 300.0;
 const LEFT: f64 = 80.0;
@@ -53,7 +53,7 @@ fn panels(speeds: &Speeds, counts: &Counts) -> Vec<Panel> {
     let counted = || (1..=5).map(|it| format!("count {it}")).collect();
     let out = |it: &Conversions| it.out.to_vec();
     let back = |it: &Conversions| it.back.to_vec();
-    let instructions = |it: &[u64; 2]| it.map(|it| it as f64).to_vec();
+    let instructions = |it: &Three| it.map(|it| it as f64).to_vec();
     let (by_size, by_length) = (&speeds.by_size, &speeds.by_length);
     vec![
         Panel::new("Out per second, by grid size", sizes(), by_size, out),

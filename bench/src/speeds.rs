@@ -6,7 +6,7 @@ use crate::proj::{self, Pipeline};
 use crate::proj_files;
 use crate::temporary::Folder;
 use bench::grid::{self, Grid};
-use bench::{fixes, Implementation, Way};
+use bench::{fixes, library, plain, GridCheck, Implementation, Way};
 use std::hint::black_box;
 
 /// Rows and columns of the grids.
@@ -24,8 +24,8 @@ pub const SIZE_OF_LENGTHS: (u32, u32) = SIZES[2];
 /// Fixes whose distance is taken.
 pub const LENGTH_OF_DISTANCE: usize = 10_000;
 
-/// Conversions per second of the library, the plain implementation and PROJ.
-pub type Three = [f64; 3];
+/// Conversions per second of the library, the i128 and the f64 implementation, and PROJ.
+pub type Four = [f64; 4];
 
 /// All that was measured.
 pub struct Speeds {
@@ -33,14 +33,14 @@ pub struct Speeds {
     pub by_length: Vec<Conversions>,
     /// Nodes per second of the library and the plain implementation, by grid size.
     pub checks: Vec<[f64; 2]>,
-    /// How far PROJ's answers lie from the library's.
-    pub distance: Distance,
+    /// How far the answers of the f64 implementation and PROJ's lie from the library's.
+    pub distances: [Distance; 2],
 }
 
 /// Conversions per second, and the mean count of the ways out.
 pub struct Conversions {
-    pub out: Three,
-    pub back: Three,
+    pub out: Four,
+    pub back: Four,
     pub mean_count: f64,
 }
 
@@ -50,7 +50,7 @@ pub fn measure() -> Speeds {
         by_size: Vec::new(),
         by_length: Vec::new(),
         checks: Vec::new(),
-        distance: Distance::default(),
+        distances: [Distance::default(); 2],
     };
     for size in SIZES {
         eprintln!("grid of {} by {}", size.0, size.1);
@@ -75,7 +75,7 @@ fn measure_lengths(grid: &Grid, pipeline: &Pipeline, speeds: &mut Speeds) {
         speeds.by_length.push(conversions(grid, pipeline, &list));
     }
     let list = fixes::spread(&grid.geometry, LENGTH_OF_DISTANCE);
-    speeds.distance = agreement::distance(grid, pipeline, &list);
+    speeds.distances = agreement::distances(grid, pipeline, &list);
 }
 
 /// PROJ's pipeline over the grid's files, which are written first.
@@ -100,7 +100,7 @@ fn conversions(grid: &Grid, pipeline: &Pipeline, list: &[i64]) -> Conversions {
     }
 }
 
-fn list_speeds(way: Way, grid: &Grid, pipeline: &Pipeline, list: &[i64]) -> Three {
+fn list_speeds(way: Way, grid: &Grid, pipeline: &Pipeline, list: &[i64]) -> Four {
     let count = list.len() / 3;
     let list_work = |implementation: Implementation| -> Work {
         let mut answers = vec![0; 5 * count];
@@ -116,23 +116,21 @@ fn list_speeds(way: Way, grid: &Grid, pipeline: &Pipeline, list: &[i64]) -> Thre
         positions.copy_from_slice(&given);
         pipeline.convert(way, black_box(&mut positions));
     });
-    let library = list_work(Implementation::Library);
-    let plain = list_work(Implementation::Plain);
-    let seconds = median_seconds(&mut [library, plain, proj_work]);
-    [0, 1, 2].map(|index| count as f64 / seconds[index])
+    let [library, plain, floating] = Implementation::ALL.map(list_work);
+    let seconds = median_seconds(&mut [library, plain, floating, proj_work]);
+    [0, 1, 2, 3].map(|index| count as f64 / seconds[index])
 }
 
 fn check_speeds(grid: &Grid) -> [f64; 2] {
-    let check_work = |implementation: Implementation| -> Work {
+    let check_work = |grid_check: GridCheck| -> Work {
         Box::new(move || {
             let mut findings = [0; 6];
-            implementation.grid_check(black_box(&grid.image), &mut findings);
+            grid_check(black_box(&grid.image), &mut findings);
             black_box(&findings);
         })
     };
-    let library = check_work(Implementation::Library);
-    let plain = check_work(Implementation::Plain);
-    let seconds = median_seconds(&mut [library, plain]);
+    let mut works = [library::grid_check, plain::grid_check].map(check_work);
+    let seconds = median_seconds(&mut works);
     let nodes = f64::from(grid.geometry.rows) * f64::from(grid.geometry.columns);
     [0, 1].map(|index| nodes / seconds[index])
 }

@@ -1,19 +1,19 @@
 //! The table, in Markdown.
 
 use crate::agreement::OTHER_FIXES;
-use crate::counts::Counts;
+use crate::counts::{Counts, Three};
 use crate::measure::REPEATS;
 use crate::proj;
 use crate::speeds::{
-    Conversions, Speeds, Three, LENGTHS, LENGTH_OF_DISTANCE, LENGTH_OF_SIZES, SIZES,
-    SIZE_OF_LENGTHS,
+    Conversions, Four, Speeds, LENGTHS, LENGTH_OF_DISTANCE, LENGTH_OF_SIZES, SIZES, SIZE_OF_LENGTHS,
 };
 use std::fmt::Write;
 use std::fs;
 use std::process::Command;
 use std::thread;
 
-const THREE_HEAD: &str = "library | i128 | PROJ | library / i128 | library / PROJ";
+const FOUR_HEAD: &str =
+    "library | i128 | f64 | PROJ | library / i128 | library / f64 | library / PROJ";
 
 pub fn write(speeds: &Speeds, counts: &Counts) -> String {
     let mut text = String::from("# Speed of the conversion\n\n");
@@ -72,11 +72,11 @@ fn conversions(first: &str, names: &[String], rows: &[Conversions]) -> String {
     for (way, of_way) in [("out", 0), ("back", 1)] {
         let added = if of_way == 0 { " mean count |" } else { "" };
         let lines = if of_way == 0 { "---:|" } else { "" };
-        let _ = write!(text, "\n{way}: {first} | {THREE_HEAD} |{added}\n");
-        let _ = writeln!(text, "---|---:|---:|---:|---:|---:|{lines}");
+        let _ = write!(text, "\n{way}: {first} | {FOUR_HEAD} |{added}\n");
+        let _ = writeln!(text, "---|---:|---:|---:|---:|---:|---:|---:|{lines}");
         for (name, row) in names.iter().zip(rows) {
             let speeds = if of_way == 0 { row.out } else { row.back };
-            let _ = write!(text, "{name} | {} |", three(speeds));
+            let _ = write!(text, "{name} | {} |", four(speeds));
             let _ = match of_way {
                 0 => writeln!(text, " {:.2} |", row.mean_count),
                 _ => writeln!(text),
@@ -86,14 +86,14 @@ fn conversions(first: &str, names: &[String], rows: &[Conversions]) -> String {
     text
 }
 
-fn three(speeds: Three) -> String {
-    let [library, plain, proj] = speeds;
-    let ratios = format!("{:.2} | {:.1}", library / plain, library / proj);
+fn four(speeds: Four) -> String {
+    let [library, plain, floating, proj] = speeds;
+    let ratios = [library / plain, library / floating].map(|it| format!("{it:.2}"));
+    let [first, second, third, fourth] = speeds.map(grouped);
+    let [to_plain, to_floating] = ratios;
     format!(
-        "{} | {} | {} | {ratios}",
-        grouped(library),
-        grouped(plain),
-        grouped(proj)
+        "{first} | {second} | {third} | {fourth} | {to_plain} | {to_floating} | {:.1}",
+        library / proj
     )
 }
 
@@ -112,16 +112,23 @@ fn checks(names: &[String], rows: &[[f64; 2]]) -> String {
 }
 
 fn instructions(sizes: &[String], counts: &Counts) -> String {
-    let mut text = String::from("\n## Instructions of one conversion out (callgrind)\n\n");
-    text += "case | library | i128 | library / i128 |\n---|---:|---:|---:|\n";
-    let by_count = (1..).map(|count: usize| format!("count {count}"));
-    let by_size = sizes.iter().map(|size| format!("count 1, grid {size}"));
+    let mut text = String::from("\n## Instructions of one conversion (callgrind)\n\n");
+    text += "case | library | i128 | f64 | library / i128 | library / f64 |\n";
+    text += "---|---:|---:|---:|---:|---:|\n";
+    let by_count = (1..).map(|count: usize| format!("out, count {count}"));
+    let by_size = sizes
+        .iter()
+        .map(|size| format!("out, count 1, grid {size}"));
     let named = by_count
         .zip(&counts.by_count)
         .chain(by_size.zip(&counts.by_size));
-    for (name, [library, plain]) in named {
-        let ratio = *library as f64 / *plain as f64;
-        let _ = writeln!(text, "{name} | {library} | {plain} | {ratio:.2} |");
+    for (name, row) in named.chain([("back".to_string(), &counts.back)]) {
+        let [library, plain, floating]: Three = *row;
+        let [to_plain, to_floating] = [plain, floating].map(|it| library as f64 / it as f64);
+        let _ = writeln!(
+            text,
+            "{name} | {library} | {plain} | {floating} | {to_plain:.2} | {to_floating:.2} |"
+        );
     }
     text
 }
@@ -129,12 +136,13 @@ fn instructions(sizes: &[String], counts: &Counts) -> String {
 fn agreement(speeds: &Speeds) -> String {
     let [others, taken] = [OTHER_FIXES, LENGTH_OF_DISTANCE].map(|count| grouped(count as f64));
     let size = size_words(SIZE_OF_LENGTHS);
+    let [floating, proj] = speeds.distances;
     format!(
         "\n## Agreement\n\nThe library and the i128 implementation gave the same answers to all \
          fixes above, and to {others} more on, near and past each grid's bounds. On the grid of \
-         {size} PROJ's answers to {taken} fixes lie within {:.2} nd and {:.2} units of the \
-         library's.\n",
-        speeds.distance.angle, speeds.distance.height
+         {size} the answers to {taken} fixes lie within {:.0} nd and {:.0} units of the library's \
+         for the f64 implementation, and within {:.2} nd and {:.2} units for PROJ.\n",
+        floating.angle, floating.height, proj.angle, proj.height
     )
 }
 
@@ -152,6 +160,15 @@ fn goals(speeds: &Speeds, counts: &Counts) -> String {
     let instructions = || counts.by_size.iter().map(|it| it[0] as f64);
     let least = instructions().fold(f64::INFINITY, f64::min);
     let growth = instructions().fold(0.0, f64::max) / least;
+    let to_floating = |four: Four| four[0] / four[2];
+    let same_size = SIZES.iter().position(|it| *it == SIZE_OF_LENGTHS);
+    let same_size = &speeds.by_size[same_size.expect("that size is among the sizes")];
+    let [out_to_floating, back_to_floating] = [("out", 0.9), ("back", 0.6)].map(|(way, goal)| {
+        format!(
+            "{way}, {}: library / f64 is at least {goal}",
+            size_words(SIZE_OF_LENGTHS)
+        )
+    });
     let told = |met: bool| if met { "met" } else { "missed" };
     let mut text = String::from("\n## Goals\n\ngoal | measured | |\n---|---:|---|\n");
     for (goal, ratio, wanted) in [
@@ -167,9 +184,11 @@ fn goals(speeds: &Speeds, counts: &Counts) -> String {
         ),
         (
             "conversions: least library / PROJ is at least 3",
-            ratios(2),
+            ratios(3),
             3.0,
         ),
+        (&out_to_floating, to_floating(same_size.out), 0.9),
+        (&back_to_floating, to_floating(same_size.back), 0.6),
     ] {
         let _ = writeln!(text, "{goal} | {ratio:.2} | {} |", told(ratio >= wanted));
     }

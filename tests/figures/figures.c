@@ -7,7 +7,7 @@
 
 #define SOUTH INT64_C(52000000000)
 #define WEST INT64_C(5000000000)
-#define SIZE 148
+#define SIZE (9 * MARKER_NODE_LENGTH + MARKER_TRAILER_LENGTH)
 
 static int failures = 0;
 
@@ -41,37 +41,41 @@ static void grid(uint8_t image[SIZE], const int64_t latitude[3], int64_t longitu
 
 typedef int64_t way(const uint8_t *, size_t, const int64_t *, size_t, int64_t *, size_t);
 
-/* One fix by its offsets from the south-west corner: is the answer these values, by their offsets too? */
-static bool gives(way *convert, const uint8_t *image, const int64_t fix[3], const int64_t values[4]) {
-    int64_t given[3] = {SOUTH + fix[0], WEST + fix[1], fix[2]};
-    int64_t wanted[5] = {SOUTH + values[0], WEST + values[1], values[2], values[3], 0};
-    int64_t answer[5];
-    return convert(image, SIZE, given, 3, answer, 5) == 0 && memcmp(answer, wanted, sizeof wanted) == 0;
+/* One fix by its offsets from the south-west corner: is this its answer? */
+static bool answers(way *convert, const uint8_t *image, const int64_t fix[MARKER_FIX_LENGTH], const int64_t wanted[MARKER_ANSWER_LENGTH]) {
+    int64_t given[MARKER_FIX_LENGTH] = {SOUTH + fix[MARKER_LATITUDE], WEST + fix[MARKER_LONGITUDE], fix[MARKER_HEIGHT]};
+    int64_t answer[MARKER_ANSWER_LENGTH];
+    return convert(image, SIZE, given, MARKER_FIX_LENGTH, answer, MARKER_ANSWER_LENGTH) == MARKER_DONE &&
+           memcmp(answer, wanted, sizeof answer) == 0;
 }
 
-static bool refuses(way *convert, const uint8_t *image, const int64_t fix[3], int64_t number) {
-    int64_t given[3] = {SOUTH + fix[0], WEST + fix[1], fix[2]};
-    int64_t wanted[5] = {0, 0, 0, 0, number};
-    int64_t answer[5];
-    return convert(image, SIZE, given, 3, answer, 5) == 0 && memcmp(answer, wanted, sizeof wanted) == 0;
+/* The same for these values, the point by its offsets too. */
+static bool gives(way *convert, const uint8_t *image, const int64_t fix[MARKER_FIX_LENGTH], const int64_t values[MARKER_NUMBER]) {
+    return answers(convert, image, fix,
+                   (int64_t[]){SOUTH + values[MARKER_LATITUDE], WEST + values[MARKER_LONGITUDE], values[MARKER_HEIGHT],
+                               values[MARKER_COUNT], MARKER_DONE});
 }
 
-static bool passes(const uint8_t *image, const int64_t wanted[6]) {
-    int64_t findings[6];
-    return marker_grid_check(image, SIZE, findings) == 0 && memcmp(findings, wanted, sizeof findings) == 0;
+static bool refuses(way *convert, const uint8_t *image, const int64_t fix[MARKER_FIX_LENGTH], int64_t number) {
+    return answers(convert, image, fix, (int64_t[]){0, 0, 0, 0, number});
+}
+
+static bool passes(const uint8_t *image, const int64_t wanted[MARKER_FINDINGS_LENGTH]) {
+    int64_t findings[MARKER_FINDINGS_LENGTH];
+    return marker_grid_check(image, SIZE, findings) == MARKER_DONE && memcmp(findings, wanted, sizeof findings) == 0;
 }
 
 static bool check_refuses(const uint8_t *image, int64_t number) {
-    const int64_t before[6] = {1, 2, 3, 4, 5, 6};
-    int64_t findings[6];
+    const int64_t before[MARKER_FINDINGS_LENGTH] = {1, 2, 3, 4, 5, 6};
+    int64_t findings[MARKER_FINDINGS_LENGTH];
     memcpy(findings, before, sizeof findings);
     return marker_grid_check(image, SIZE, findings) == number && memcmp(findings, before, sizeof findings) == 0;
 }
 
 static bool writes(int64_t nd, uint64_t degrees, uint64_t minutes, uint64_t fraction, char letter) {
-    uint64_t wanted[4] = {degrees, minutes, fraction, (uint64_t)letter};
-    uint64_t notation[4];
-    return marker_write_notation(false, nd, notation) == 0 && memcmp(notation, wanted, sizeof wanted) == 0;
+    uint64_t wanted[MARKER_NOTATION_LENGTH] = {degrees, minutes, fraction, (uint64_t)letter};
+    uint64_t notation[MARKER_NOTATION_LENGTH];
+    return marker_write_notation(false, nd, notation) == MARKER_DONE && memcmp(notation, wanted, sizeof wanted) == 0;
 }
 
 static void figures_of_g(void) {
@@ -96,7 +100,8 @@ static void figures_of_variants(void) {
     tell("0, 1000, 2000: out (1500, 500) gives 11", refuses(marker_list_out, image, (int64_t[]){1500, 500, 0}, 11));
     tell("0, 1000, 2000: the check gives 12", check_refuses(image, 12));
     grid(image, (int64_t[]){100, 110, 120}, -50, 0);
-    tell("100, 110, 120: out (602, 450) gives 497", gives(marker_list_out, image, (int64_t[]){602, 450, 440003}, (int64_t[]){497, 500, 10000, 2}));
+    tell("100, 110, 120: out (602, 450) gives 497",
+         gives(marker_list_out, image, (int64_t[]){602, 450, 440003}, (int64_t[]){497, 500, 10000, 2}));
     tell("100, 110, 120 pass", passes(image, (int64_t[]){10, 0, 0, 0, 0, 5}));
     grid(image, (int64_t[]){100, 111, 122}, -50, 0);
     tell("100, 111, 122 give 12", check_refuses(image, 12));
@@ -107,7 +112,7 @@ static void figures_of_variants(void) {
 
 static void figures_of_notation(void) {
     int64_t nd = 0;
-    bool read = marker_read_notation(false, 52, 5, 2987000, 'N', &nd) == 0;
+    bool read = marker_read_notation(false, 52, 5, 2987000, 'N', &nd) == MARKER_DONE;
     tell("52 5 29.87000 N is 52,091,630,556", read && nd == INT64_C(52091630556));
     tell("52,091,630,556 is written so again", writes(INT64_C(52091630556), 52, 5, 2987000, 'N'));
     tell("16,666,666 is 0 1 0.00000", writes(16666666, 0, 1, 0, 'N'));

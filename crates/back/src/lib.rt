@@ -1,15 +1,12 @@
 // The way back over an opened image, from a Bessel point in the bounds and a NAP height to ETRS89.
-use lookup::cell_around;
-use lookup::corrections_in;
-use lookup::height_in;
+use lookup::PointLookup;
+use lookup::look_up;
 use lookup::runs_of;
 use rules::Answer;
 use rules::Correction;
-use rules::HeightLookup;
 use rules::Layout;
 use rules::Point;
 use rules::Position;
-use rules::Refusal;
 ghost use mathlib.Core.Path.{_≡_};
 ghost use Prim.Native.Nat.{_≤_};
 ghost use lib.IntN.{natAbs, _+ℤ_};
@@ -25,14 +22,12 @@ pub fn back_from(image: &[u8], l: Layout, q: Point, height: i64) -> Answer
     ensures { λ r. ⌜ ways.answerOf r ≡ ways.back (ways.sourceOf (gridOf (now (image .entry)) l)) q height ⌝ }
 {
     let g = l.latitude.geometry;
-    let h = cell_around(image, g, runs_of(l), q);
-    if !h.passes {
-        return Answer::Refused(Refusal::NodeLimits);
-    }
-    let c = corrections_in(h, g, q);
-    match height_in(h, g, q) {
-        HeightLookup::Height(z) => Answer::Values(added(q, height, c, z)),
-        HeightLookup::Refused(r) => Answer::Refused(r),
+    match look_up(image, g, runs_of(l), q) {
+        PointLookup::Values(v) => {
+            let c = v.correction;
+            Answer::Values(added(q, height, c, v.height))
+        }
+        PointLookup::Refused(r) => Answer::Refused(r),
     }
 }
 

@@ -1,11 +1,11 @@
 -- What the weighting function asks of its numbers, and the weighted mean over natural numbers that its steps compute.
 use Prim.Native.Nat.{ℕ, _+_, _-_, _*_, _/_, _%_, _^_, _≤_, _<_, max}
-use mathlib.Core.Bool.{cond}
-use lib.IntN.{ℤ, pos}
+use mathlib.Core.Bool.{Bool, cond, _&&_}
+use lib.IntN.{ℤ, pos, _-ℤ_}
 use lib.Signed.{leZ}
 use Rattle.integers.specs.Rounding.{roundHalfUp}
 use Rattle.rules.specs.declared.Square.{Square}
-use Rattle.rules.specs.Units.{spacingMost, correctionLimit}
+use Rattle.rules.specs.Units.{between, within, spacingMost, correctionLimit}
 use Rattle.bilinear.specs.declared.Quotient.{Quotient}
 
 -- A spacing that question 4 lets pass.
@@ -19,6 +19,22 @@ pub record InCell (u v P Q : ℕ) : Type 0 where
   pub v-most : v ≤ Q
   pub latitude-spacing : Spacing P
   pub longitude-spacing : Spacing Q
+
+-- Corners are near where the others lie less than 2^15 from the south-west one, in a cell whose area is at most 2^48.
+abbrev pub raise : ℕ
+raise = 32768
+
+abbrev pub nearLimit : ℕ
+nearLimit = 32767
+
+abbrev pub nearArea : ℕ
+nearArea = 281474976710656
+
+unfoldable pub near : Square → ℕ → Bool
+near c area =
+    (within nearLimit (c .southeast -ℤ c .southwest)
+    && (within nearLimit (c .northwest -ℤ c .southwest) && within nearLimit (c .northeast -ℤ c .southwest)))
+    && between 1 nearArea area
 
 -- The lesser of two values.
 abbrev pub minimum : ℤ → ℤ → ℤ

@@ -1,19 +1,25 @@
 // The bilinear value of document 01, exact in 64 bits.
-use numbers::larger;
+use numbers::is_between;
+use numbers::three_within;
+ghost use mathlib.Core.Bool.{true};
 ghost use mathlib.Core.Path.{_≡_};
 ghost use Prim.Native.Nat.{_+_, _*_, _≤_};
-ghost use lib.IntN.{pos, natAbs, _+ℤ_};
+ghost use lib.IntN.{pos, natAbs, _+ℤ_, _-ℤ_};
 ghost use lib.Signed.{_≤ℤ_};
 ghost use Rattle.integers.specs.Rounding.{roundHalfUp};
 ghost use Rattle.rules.specs.Units.{correctionLimit};
 ghost use Rattle.rules.specs.Limits.{CornersWithin};
 ghost use Rattle.rules.specs.Bilinear.{squareOf, bilinear};
 ghost use Rattle.bilinear.specs.Mean.{InCell, minimum, leastOf, mix, mean, quotientOf, Mixable, RowMixes, Below, Divided};
+ghost use Rattle.bilinear.specs.Mean.{raise, nearLimit, nearArea, near};
 
-// 2^20 and 2^44: with them `divided` tests whether a product is below 2^64.
-const CHUNK: u64 = 1_048_576;
+// Corners are near where the others lie less than 2^15 from the south-west one and the cell's area is at most 2^48: raised by 2^15 less
+// that corner they are natural numbers below 2^16, and the mix of such numbers, below 2^16 areas, fits 64 bits.
+const RAISE: i64 = 32_768;
 
-const CHUNKS_MOST: u64 = 17_592_186_044_416;
+const NEAR: u64 = 32_767;
+
+const NEAR_AREA: u64 = 281_474_976_710_656;
 
 // What a division gives: the quotient, rounded down, and the remainder.
 pub struct Quotient {
@@ -21,8 +27,8 @@ pub struct Quotient {
     pub rest: u64,
 }
 
-// The bilinear value of four corner values, south row first, at u from the south side and v from the west side of a cell.
-// The least corner is taken from each, which leaves natural numbers, most often small, and added again to their mean.
+// The bilinear value of four corner values, south row first, at u from the south side and v from the west side of a cell. Where the corners
+// are near, one division is enough. Else the least corner is taken from each, which leaves natural numbers, and added again to their mean.
 pub fn weigh(
     corners: [[i64; 2]; 2],
     u: u64,
@@ -33,6 +39,9 @@ pub fn weigh(
     requires { ⌜ CornersWithin correctionLimit (squareOf corners) × InCell u v «latitude_spacing» «longitude_spacing» ⌝ }
     ensures { λ r. ⌜ r ≡ bilinear (squareOf corners) u v «latitude_spacing» «longitude_spacing» ⌝ }
 {
+    if are_near(corners, latitude_spacing * longitude_spacing) {
+        return weigh_near(corners, u, v, latitude_spacing, longitude_spacing);
+    }
     let least = least_of(corners);
     let sw = gap(least, corners[0][0]);
     let se = gap(least, corners[0][1]);
@@ -40,6 +49,83 @@ pub fn weigh(
     let ne = gap(least, corners[1][1]);
     let mean = rounded_mean(sw, se, nw, ne, u, v, latitude_spacing, longitude_spacing);
     above_least(least, mean)
+}
+
+// Are the corners of a cell of that area near?
+pub fn are_near(corners: [[i64; 2]; 2], area: u64) -> bool
+    requires { ⌜ CornersWithin correctionLimit (squareOf corners) ⌝ }
+    ensures { λ r. ⌜ r ≡ near (squareOf corners) area ⌝ }
+{
+    let sw = corners[0][0];
+    let se = corners[0][1] - sw;
+    let nw = corners[1][0] - sw;
+    let ne = corners[1][1] - sw;
+    if three_within(se, NEAR, nw, NEAR, ne, NEAR) {
+        is_between(area, 1, NEAR_AREA)
+    } else {
+        false
+    }
+}
+
+// The value of near corners.
+pub fn weigh_near(
+    corners: [[i64; 2]; 2],
+    u: u64,
+    v: u64,
+    latitude_spacing: u64,
+    longitude_spacing: u64,
+) -> i64
+    requires { ⌜ CornersWithin correctionLimit (squareOf corners) × InCell u v «latitude_spacing» «longitude_spacing»
+        × (near (squareOf corners) («latitude_spacing» * «longitude_spacing») ≡ true) ⌝ }
+    ensures { λ r. ⌜ r ≡ bilinear (squareOf corners) u v «latitude_spacing» «longitude_spacing» ⌝ }
+{
+    let sw = corners[0][0];
+    let se = raised(sw, corners[0][1]);
+    let nw = raised(sw, corners[1][0]);
+    let ne = raised(sw, corners[1][1]);
+    lowered(
+        sw,
+        near_mean(se, nw, ne, u, v, latitude_spacing, longitude_spacing),
+    )
+}
+
+// A corner x near sw, raised by RAISE less sw.
+fn raised(sw: i64, x: i64) -> u64
+    requires { ⌜ (natAbs sw ≤ correctionLimit) × (natAbs x ≤ correctionLimit) × (natAbs (x -ℤ sw) ≤ nearLimit) ⌝ }
+    ensures { λ r. ⌜ x ≡ (sw -ℤ pos raise) +ℤ pos r ⌝ }
+{
+    (x - sw + RAISE) as u64
+}
+
+// The value that n is, raised so.
+fn lowered(sw: i64, n: u64) -> i64
+    requires { ⌜ (natAbs sw ≤ correctionLimit) × (n ≤ 2 * correctionLimit) ⌝ }
+    ensures { λ r. ⌜ r ≡ (sw -ℤ pos raise) +ℤ pos n ⌝ }
+{
+    sw - RAISE + n as i64
+}
+
+// The weighted mean of near corners, raised so that the south-west one is RAISE, rounded.
+fn near_mean(
+    se: u64,
+    nw: u64,
+    ne: u64,
+    u: u64,
+    v: u64,
+    latitude_spacing: u64,
+    longitude_spacing: u64,
+) -> u64
+    requires { ⌜ Below (raise + nearLimit) raise se nw ne × InCell u v «latitude_spacing» «longitude_spacing»
+        × («latitude_spacing» * «longitude_spacing» ≤ nearArea) ⌝ }
+    ensures { λ r. ⌜ pos r ≡ mean raise se nw ne u v «latitude_spacing» «longitude_spacing» ⌝ }
+{
+    let south = mix(RAISE as u64, se, v, longitude_spacing);
+    let north = mix(nw, ne, v, longitude_spacing);
+    let m = mix(south, north, u, latitude_spacing);
+    let area = latitude_spacing * longitude_spacing;
+    let whole = m / area;
+    let rest = m % area;
+    rounded(Quotient { whole, rest }, area)
 }
 
 // The least corner.
@@ -91,7 +177,7 @@ fn rounded_mean(
 {
     let south = mix(sw, se, v, longitude_spacing);
     let north = mix(nw, ne, v, longitude_spacing);
-    let quotient = divided(south, north, u, latitude_spacing, longitude_spacing);
+    let quotient = divided_in_steps(south, north, u, latitude_spacing, longitude_spacing);
     rounded(quotient, latitude_spacing * longitude_spacing)
 }
 
@@ -103,25 +189,8 @@ fn mix(a: u64, b: u64, w: u64, whole: u64) -> u64
     (whole - w) * a + w * b
 }
 
-// The mix of two rows divided by the area. The larger row is below CHUNK times one more than its quotient by CHUNK, so where the test
-// holds, the latitude spacing times the larger row, and the mix with it, is below CHUNK * CHUNKS_MOST, which is 2^64.
-fn divided(s: u64, n: u64, u: u64, latitude_spacing: u64, longitude_spacing: u64) -> Quotient
-    requires { ⌜ RowMixes s n u «latitude_spacing» «longitude_spacing» ⌝ }
-    ensures { λ r. ⌜ r ≡ quotientOf s n u «latitude_spacing» «longitude_spacing» ⌝ }
-{
-    if latitude_spacing * (larger(s, n) / CHUNK + 1) <= CHUNKS_MOST {
-        let area = latitude_spacing * longitude_spacing;
-        let m = mix(s, n, u, latitude_spacing);
-        return Quotient {
-            whole: m / area,
-            rest: m % area,
-        };
-    }
-    divided_in_steps(s, n, u, latitude_spacing, longitude_spacing)
-}
-
-// The same where the mix itself may not fit 64 bits: each row is divided by the longitude spacing first, then the mix of those quotients
-// by the latitude spacing. What both divisions leave is below two areas.
+// The mix of two rows divided by the area, without the mix itself, which may not fit 64 bits: each row is divided by the longitude spacing
+// first, then the mix of those quotients by the latitude spacing. What both divisions leave is below two areas.
 fn divided_in_steps(
     s: u64,
     n: u64,

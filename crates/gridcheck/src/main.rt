@@ -1,26 +1,22 @@
 // The program gridcheck: reads one grid image of at most 65,536 bytes from standard input and prints the grid check's findings, or the
 // refusal.
-use numbers::magnitude;
-use refusals::refusal_number;
 use rules::Checked;
 use rules::Findings;
 use rules::Steps;
 use slopes::grid_check;
+use streams::print_field;
+use streams::print_refusal;
+use streams::read_image;
 
 fn main() {
     let mut image = io::large_buffer();
-    let size = io::read_full(0, &mut image);
-    if has_more() {
+    let input = read_image(&mut image);
+    if input.too_long {
         io::write_all(1, b"too long\n");
         return;
     }
+    let size = input.size;
     report(&image[..size]);
-}
-
-// Is there a byte left on standard input?
-fn has_more() -> bool {
-    let mut next = [0u8; 1];
-    io::read_full(0, &mut next) != 0
 }
 
 // One line: `passed` and A and B of the three values, or `refused` and the number.
@@ -29,13 +25,10 @@ fn report(image: &[u8]) {
         Checked::Passed(f) => {
             io::write_all(1, b"passed");
             print_findings(f);
+            io::write_all(1, b"\n");
         }
-        Checked::Refused(r) => {
-            io::write_all(1, b"refused ");
-            io::print_decimal(1, magnitude(refusal_number(r)));
-        }
+        Checked::Refused(r) => print_refusal(r),
     }
-    io::write_all(1, b"\n");
 }
 
 fn print_findings(f: Findings) {
@@ -48,8 +41,6 @@ fn print_findings(f: Findings) {
 }
 
 fn print_steps(s: Steps) {
-    io::write_all(1, b" ");
-    io::print_decimal(1, s.northward);
-    io::write_all(1, b" ");
-    io::print_decimal(1, s.eastward);
+    print_field(s.northward);
+    print_field(s.eastward);
 }

@@ -1,66 +1,73 @@
 -- The lookups in terms of the held cell around a point, the limits that question 9 establishes of the values there, and the cell held for a
 -- further point.
-use mathlib.Core.Bool.{true}
+use mathlib.Core.Bool.{Bool, true, false}
 use mathlib.Core.List.{List}
-use mathlib.Core.Path.{_≡_, refl, sym, subst, _∙_}
-use Prim.Native.Nat.{ℕ, _^_, _≤_, _<_}
+use mathlib.Core.Path.{_≡_, refl, sym, ap, subst, _∙_}
+use Prim.Native.Nat.{ℕ, _≤_}
 use native.Mathlib.Nat.{mul-pos}
 use native.Mathlib.Omega.{arith}
 use lib.Dec.{leb}
 use lib.IntN.{ℤ, natAbs}
 use lib.ListN.{length}
-use lib.Signed.{mag}
-use mir.Syntax.{w64}
-use mir.Val.{toZ, ofZ, hbits}
-use Rattle.integers.specs.Machine.{zarith, reads-back}
+use Rattle.integers.specs.Machine.{zarith}
 use Rattle.integers.specs.Booleans.{and-left, and-right, all-three}
 use Rattle.rules.specs.declared.Axis.{Axis}
 use Rattle.rules.specs.declared.Geometry.{Geometry}
 use Rattle.rules.specs.declared.Layout.{Layout}
 use Rattle.rules.specs.declared.Point.{Point}
 use Rattle.rules.specs.declared.Square.{Square}
+use Rattle.rules.specs.declared.Correction.{Correction}
 use Rattle.rules.specs.Units.{correctionLimit, quasiGeoidLimit}
-use Rattle.rules.specs.Answers.{values, ask}
+use Rattle.rules.specs.Answers.{Outcome, values, number, ask}
 use Rattle.rules.specs.Image.{Grid, gridOf}
 use Rattle.rules.specs.Limits.{Sized, GeometryPasses, Open, CornersWithin, CorrectionWithin}
-use Rattle.rules.specs.Bilinear.{offset, partOf, cellFor, corners, bilinear, valueAt}
-use Rattle.rules.specs.Lookup.{inside, squarePasses, question9, correctionLookup, heightLookup}
-use Rattle.rules.proofs.Cells.{part-for-most, cell-start, cell-most, cell-nodes, cell-is, on-latitude, on-longitude}
-use Rattle.rules.proofs.Answers.{asked}
+use Rattle.rules.specs.Bilinear.{offset, partOf, cellFor, valueAt}
+use Rattle.rules.specs.Lookup.{inside, squarePasses, question9, correctionsAt, correctionLookup, heightLookup}
+use Rattle.rules.proofs.Cells.{part-for-most, cell-start, cell-most, cell-is, on-latitude, on-longitude}
+use Rattle.rules.proofs.Answers.{asked, answered-yes}
 use Rattle.rules.proofs.Limits.{corners-within}
 use Rattle.rules.proofs.Weights.{value-within}
 use Rattle.axis.specs.Place.{reaches}
 use Rattle.rules.specs.declared.Runs.{Runs}
 use Rattle.lookup.specs.declared.HeldCell.{HeldCell}
-use Rattle.lookup.specs.Held.{runsOf, layoutFrom, square, cornersPass, sideFor, heldCell, heldAt, liesIn}
-use Rattle.lookup.specs.Held.{valueBetween, correctionsIn, heightIn}
-use Rattle.lookup.specs.Held.{Bounded, OpenAround, Holds}
+use Rattle.lookup.specs.declared.CellCorners.{CellCorners}
+use Rattle.lookup.specs.declared.PointValues.{PointValues}
+use Rattle.lookup.specs.Held.{runsOf, layoutFrom, cornersPass, sideFor, heldCell, heldAt, liesIn}
+use Rattle.lookup.specs.Held.{cornersOf, valueIn, valueBetween, correctionsIn, heightIn}
+use Rattle.lookup.specs.Held.{Bounded, OpenAround, Holds, pointLookup}
 
 -- The corrections' lookup puts question 9 to the corners of the point's cell, and weighs the corrections there.
 pub corrections-from : (g : Grid) (p : Point) (h : HeldCell) → h ≡ heldAt g p
     → correctionLookup g p ≡ ask (h .passes) 9 (values (correctionsIn h (g .corrections) p))
-unfolding correctionLookup question9 cornersPass heldAt heldCell valueAt partOf valueBetween
+unfolding correctionLookup question9 cornersPass heldAt heldCell valueAt partOf valueIn
 corrections-from g p h e = rw e refl
 
 -- So does the height's, where heights have the corrections' geometry.
 pub height-from : (g : Grid) (p : Point) (h : HeldCell) → h ≡ heldAt g p → g .heights ≡ g .corrections
     → heightLookup g p ≡ heightIn h (g .corrections) p
-unfolding heightLookup question9 cornersPass heldAt heldCell valueAt partOf valueBetween
+unfolding heightLookup question9 cornersPass heldAt heldCell valueAt partOf valueIn
 height-from g p h e same = rw (e, same) refl
 
--- What question 9 says of each plane's corners, in a cell that holds a point and passes.
-pub record Passing (h : HeldCell) : Type 0 where
-  pub latitude : CornersWithin correctionLimit (h .latitude)
-  pub longitude : CornersWithin correctionLimit (h .longitude)
-  pub height : CornersWithin quasiGeoidLimit (h .height)
+-- What question 9 says of each plane's corners that pass it, and in a cell that holds a point and passes.
+pub record Passing (c : CellCorners) : Type 0 where
+  pub latitude : CornersWithin correctionLimit (c .latitude)
+  pub longitude : CornersWithin correctionLimit (c .longitude)
+  pub height : CornersWithin quasiGeoidLimit (c .height)
 
-pub passing : {h : HeldCell} {g : Geometry} {p : Point} → Holds h g p → h .passes ≡ true → Passing h
+pub passing-corners : {c : CellCorners} → cornersPass c ≡ true → Passing c
 unfolding cornersPass
-passing {h} k t =
-    let latitude = squarePasses correctionLimit (h .latitude) in
-    let longitude = squarePasses correctionLimit (h .longitude) in
-    let a = all-three latitude longitude (squarePasses quasiGeoidLimit (h .height)) (sym (k .asked) ∙ t) in
+passing-corners {c} t =
+    let latitude = squarePasses correctionLimit (c .latitude) in
+    let longitude = squarePasses correctionLimit (c .longitude) in
+    let a = all-three latitude longitude (squarePasses quasiGeoidLimit (c .height)) t in
     record { latitude = corners-within _ _ (a .0); longitude = corners-within _ _ (a .1); height = corners-within _ _ (a .2) }
+
+pub passing : {h : HeldCell} {g : Geometry} {p : Point} → Holds h g p → h .passes ≡ true → Passing (cornersOf h)
+passing k t = passing-corners (sym (k .asked) ∙ t)
+
+-- Heights within their limit are within that of corrections, which the weighting asks for.
+pub heights-within : {c : Square} → CornersWithin quasiGeoidLimit c → CornersWithin correctionLimit c
+heights-within w = omega arith
 
 -- A point in the bounds of a geometry that passes.
 pub bounded : {g : Geometry} {p : Point} → GeometryPasses g → inside g p ≡ true → Bounded g p
@@ -98,7 +105,7 @@ layout-of-runs {l} o =
       height = record { geometry = sym (o .height-geometry) i; first = l .height .first; stride = l .height .stride };
     }
 
--- What `cell_around` asks and gives, where it is given the runs of a layout.
+-- What `cell_around` and `look_up` ask and give, where they are given the runs of a layout.
 module _ (b : List ℕ) {l : Layout} {r : Runs} (o : Open (length b) l) (e : r ≡ runsOf l) where
   runs-layout : layoutFrom (l .latitude .geometry) r ≡ l
   runs-layout = rw e (layout-of-runs o)
@@ -108,6 +115,10 @@ module _ (b : List ℕ) {l : Layout} {r : Runs} (o : Open (length b) l) (e : r �
 
   pub held-runs : (p : Point) {h : HeldCell} → h ≡ heldAt (gridOf b (layoutFrom (l .latitude .geometry) r)) p → h ≡ heldAt (gridOf b l) p
   held-runs p h = h ∙ (λ i. heldAt (gridOf b (runs-layout i)) p)
+
+  pub point-runs : (p : Point) {v : Outcome PointValues} → v ≡ pointLookup (gridOf b (layoutFrom (l .latitude .geometry) r)) p
+      → v ≡ pointLookup (gridOf b l) p
+  point-runs p e = e ∙ (λ i. pointLookup (gridOf b (runs-layout i)) p)
 
 -- The same of an open image around a point, and the height's lookup there.
 pub around-holds : {b : List ℕ} {l : Layout} {p : Point} {h : HeldCell} → OpenAround b l p → h ≡ heldAt (gridOf b l) p
@@ -140,27 +151,10 @@ same-cell g r p h e o lies =
     let column = same-along b (r .longitude) (p .longitude) (o .longitude .sized) (and-right north _ t) in
     e ∙ rw (row, column)
 
--- Corner values that are passed as numbers are read back as they are.
-abbrev bits : ℤ → ℤ
-bits z = toZ w64 (ofZ w64 z)
-
-abbrev pub readBack : Square → Square
-readBack c = square (bits (c .southwest)) (bits (c .southeast)) (bits (c .northwest)) (bits (c .northeast))
-
-abbrev Narrow : ℤ → Type 0
-Narrow z = mag z < 2 ^ hbits w64
-
-pub square-back : (c : Square) → Narrow (c .southwest) → Narrow (c .southeast) → Narrow (c .northwest) → Narrow (c .northeast)
-    → readBack c ≡ c
-square-back c sw se nw ne =
-    λ i. square
-    (reads-back w64 (c .southwest) sw i) (reads-back w64 (c .southeast) se i)
-    (reads-back w64 (c .northwest) nw i) (reads-back w64 (c .northeast) ne i)
-
 -- A value between corners is within their limit, at a point that the cell holds.
 between-within : {M : ℕ} (c : Square) {h : HeldCell} {g : Geometry} {p : Point} → CornersWithin M c → Holds h g p
     → natAbs (valueBetween c h g p) ≤ M
-unfolding valueBetween
+unfolding valueIn
 between-within c w k =
     let at = k .place in
     value-within c w (at .u-most) (at .v-most) (mul-pos (at .latitude-spacing .least) (at .longitude-spacing .least))
@@ -182,3 +176,30 @@ pub height-within : (g : Grid) (p : Point) (z : ℤ) → Bounded (g .corrections
     → heightLookup g p ≡ values z → natAbs z ≤ quasiGeoidLimit
 height-within g p z b same h =
     height-in-within (heldAt g p) (g .corrections) p z (cell-holds g p b) (sym (height-from g p (heldAt g p) refl same) ∙ h)
+
+-- The lookup of all values is both lookups at once: what it finds each of them finds, and where it refuses, so do they.
+pub both-found : (g : Grid) (p : Point) (v : PointValues) → g .heights ≡ g .corrections → pointLookup g p ≡ values v
+    → (correctionLookup g p ≡ values (v .correction)) × (heightLookup g p ≡ values (v .height))
+unfolding correctionLookup heightLookup pointLookup question9
+both-found g p v same e =
+    let t = asked (question9 g p) 9 _ v e in
+    let k : correctionsAt g p ≡ v .correction = cc (t .1) in
+    let h : valueAt (g .corrections) (g .height) p ≡ v .height = cc (t .1) in
+    (answered-yes _ 9 _ (t .0) ∙ ap values k, rw same (answered-yes _ 9 _ (t .0) ∙ ap values h))
+
+refused-alike : {A B : Type 0} (t : Bool) (a : A) (b : B) (n : ℕ) → ask t 9 (values a) ≡ number n → ask t 9 (values b) ≡ number n
+refused-alike true a b n e = let z : _≡_ {A = ℕ} 0 1 = cc in absurd (omega arith)
+refused-alike false a b n e = cc
+
+pub corrections-refused : (g : Grid) (p : Point) (n : ℕ) → pointLookup g p ≡ number n → correctionLookup g p ≡ number n
+unfolding correctionLookup pointLookup
+corrections-refused g p n e = refused-alike (question9 g p) _ _ n e
+
+-- Corrections that are found are within their limit.
+pub found-within : (g : Grid) (p : Point) (c : Correction) → Bounded (g .corrections) p → correctionLookup g p ≡ values c
+    → CorrectionWithin c
+found-within g p c b e =
+    let h = heldAt g p in
+    let t = asked (h .passes) 9 _ c (sym (corrections-from g p h refl) ∙ e) in
+    let k : correctionsIn h (g .corrections) p ≡ c = cc (t .1) in
+    rw k at (corrections-within (t .0) (cell-holds g p b))

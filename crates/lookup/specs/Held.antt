@@ -13,14 +13,18 @@ use Rattle.rules.specs.declared.Point.{Point}
 use Rattle.rules.specs.declared.Square.{Square}
 use Rattle.rules.specs.declared.Correction.{Correction}
 use Rattle.rules.specs.Units.{correctionLimit, quasiGeoidLimit}
-use Rattle.rules.specs.Answers.{Outcome, values, ask}
+use Rattle.rules.specs.Answers.{Outcome, values, number, numberOf, ask}
 use Rattle.rules.specs.Image.{Grid, gridOf}
 use Rattle.rules.specs.Limits.{GeometryPasses, Open}
-use Rattle.rules.specs.Bilinear.{offset, cellFor, corners, bilinear}
-use Rattle.rules.specs.Lookup.{inside, squarePasses}
+use Rattle.rules.specs.Bilinear.{offset, cellFor, corners, bilinear, valueAt}
+use Rattle.rules.specs.Lookup.{inside, squarePasses, question9, correctionsAt}
 use Rattle.axis.specs.Place.{reaches}
-use Rattle.bilinear.specs.Mean.{InCell}
+use Rattle.bilinear.specs.Mean.{Spacing, InCell}
 use Rattle.lookup.specs.declared.HeldCell.{HeldCell}
+use Rattle.lookup.specs.declared.CellCorners.{CellCorners}
+use Rattle.lookup.specs.declared.PointValues.{PointValues}
+use Rattle.lookup.specs.declared.PointLookup.{PointLookup}
+use Rattle.lookup.specs.declared.PointLookup.the-variants as looked-up
 use Rattle.rules.specs.declared.Run.{Run}
 use Rattle.rules.specs.declared.Runs.{Runs}
 use Rattle.lookup.specs.declared.Offsets.{Offsets}
@@ -44,10 +48,20 @@ layoutFrom g r = record { latitude = planeOf g (r .latitude); longitude = planeO
 abbrev pub square : (sw se nw ne : ℤ) → Square
 square sw se nw ne = record { southwest = sw; southeast = se; northwest = nw; northeast = ne }
 
+-- Each value at the corners of the cell of a row and a column.
+abbrev pub cellCorners : Grid → (row column : ℕ) → CellCorners
+cellCorners g row column =
+    record {
+      latitude = corners (g .latitude) row column;
+      longitude = corners (g .longitude) row column;
+      height = corners (g .height) row column;
+    }
+
 -- Question 9 of the three values at a cell's corners.
-unfoldable pub cornersPass : (latitude longitude height : Square) → Bool
-cornersPass latitude longitude height =
-    squarePasses correctionLimit latitude && (squarePasses correctionLimit longitude && squarePasses quasiGeoidLimit height)
+unfoldable pub cornersPass : CellCorners → Bool
+cornersPass c =
+    squarePasses correctionLimit (c .latitude)
+    && (squarePasses correctionLimit (c .longitude) && squarePasses quasiGeoidLimit (c .height))
 
 -- The offset of the south or west side of an angle's cell.
 abbrev pub sideFor : Axis → ℤ → ℕ
@@ -56,16 +70,14 @@ sideFor a z = cellFor a z * a .spacing
 -- The cell of a row and a column, whose sides have these offsets.
 unfoldable pub heldCell : Grid → (row column south west : ℕ) → HeldCell
 heldCell g row column south west =
-    let latitude = corners (g .latitude) row column in
-    let longitude = corners (g .longitude) row column in
-    let height = corners (g .height) row column in
+    let c = cellCorners g row column in
     record {
       south = south;
       west = west;
-      latitude = latitude;
-      longitude = longitude;
-      height = height;
-      passes = cornersPass latitude longitude height;
+      latitude = c .latitude;
+      longitude = c .longitude;
+      height = c .height;
+      passes = cornersPass c;
     }
 
 -- The cell of a point in the bounds; a and o are the latitude and the longitude axis.
@@ -94,6 +106,10 @@ abbrev pub placeIn : HeldCell → Geometry → Point → PlaceInCell
 placeIn h g p =
     record { u = offsetsOf g p .northing - h .south; v = offsetsOf g p .easting - h .west }
 
+-- Spacings that question 4 lets pass.
+abbrev pub SpacingsPass : Geometry → Type 0
+SpacingsPass g = Spacing (g .latitude .spacing) × Spacing (g .longitude .spacing)
+
 -- A place in a cell of the geometry, its sides included.
 abbrev pub InCellOf : Geometry → PlaceInCell → Type 0
 InCellOf g at = InCell (at .u) (at .v) (g .latitude .spacing) (g .longitude .spacing)
@@ -108,6 +124,10 @@ liesIn h g p =
 abbrev pub HeldFor : HeldCell → List ℕ → Layout → Point → Type 0
 HeldFor h b l p = liesIn h (l .latitude .geometry) p ≡ true → h ≡ heldAt (gridOf b l) p
 
+-- The corners of a held cell.
+abbrev pub cornersOf : HeldCell → CellCorners
+cornersOf h = record { latitude = h .latitude; longitude = h .longitude; height = h .height }
+
 -- A held cell holds a point in the bounds that is at or past both of its sides, and at most one spacing from each. The cell's answer to
 -- question 9 is that of its corners.
 pub record Holds (h : HeldCell) (g : Geometry) (p : Point) : Type 0 where
@@ -115,13 +135,14 @@ pub record Holds (h : HeldCell) (g : Geometry) (p : Point) : Type 0 where
   pub south : h .south ≤ offsetsOf g p .northing
   pub west : h .west ≤ offsetsOf g p .easting
   pub place : InCellOf g (placeIn h g p)
-  pub asked : h .passes ≡ cornersPass (h .latitude) (h .longitude) (h .height)
+  pub asked : h .passes ≡ cornersPass (cornersOf h)
 
--- The bilinear value of a square's corners, at a point's place in a held cell.
-unfoldable pub valueBetween : Square → HeldCell → Geometry → Point → ℤ
-valueBetween c h g p =
-    let at = placeIn h g p in
-    bilinear c (at .u) (at .v) (g .latitude .spacing) (g .longitude .spacing)
+-- The bilinear value of a square's corners at a place in a cell, and at a point's place in a held cell.
+unfoldable pub valueIn : Square → Geometry → PlaceInCell → ℤ
+valueIn c g at = bilinear c (at .u) (at .v) (g .latitude .spacing) (g .longitude .spacing)
+
+abbrev pub valueBetween : Square → HeldCell → Geometry → Point → ℤ
+valueBetween c h g p = valueIn c g (placeIn h g p)
 
 -- The height there, after question 9.
 abbrev pub heightIn : HeldCell → Geometry → Point → Outcome ℤ
@@ -130,3 +151,21 @@ heightIn h g p = ask (h .passes) 9 (values (valueBetween (h .height) h g p))
 -- The corrections there.
 abbrev pub correctionsIn : HeldCell → Geometry → Point → Correction
 correctionsIn h g p = record { latitude = valueBetween (h .latitude) h g p; longitude = valueBetween (h .longitude) h g p }
+
+-- All three values at a place in a cell.
+abbrev pub valuesIn : CellCorners → Geometry → PlaceInCell → PointValues
+valuesIn c g at =
+    record {
+      correction = record { latitude = valueIn (c .latitude) g at; longitude = valueIn (c .longitude) g at };
+      height = valueIn (c .height) g at;
+    }
+
+-- The lookup of all values at a point in the bounds, where heights have the corrections' geometry: question 9 for its cell, then the values.
+unfoldable pub pointLookup : Grid → Point → Outcome PointValues
+pointLookup g p =
+    ask (question9 g p) 9 (values (record { correction = correctionsAt g p; height = valueAt (g .corrections) (g .height) p }))
+
+-- The code's answer, in these terms.
+abbrev pub pointLookupOf : PointLookup → Outcome PointValues
+pointLookupOf (looked-up.Values v) = values v
+pointLookupOf (looked-up.Refused r) = number (numberOf r)

@@ -2,7 +2,9 @@
 use axis::is_reached;
 use axis::locate;
 use axis::offset_on;
+use bilinear::are_near;
 use bilinear::weigh;
+use bilinear::weigh_near;
 use nodes::corners_at;
 use nodes::square_passes;
 use rules::CORRECTION_LIMIT;
@@ -19,13 +21,16 @@ use rules::Runs;
 use rules::Square;
 ghost use mathlib.Core.Path.{_≡_};
 ghost use mathlib.Core.Bool.{true};
+ghost use Prim.Native.Nat.{_+_, _*_, _<_};
+ghost use lib.ListN.{length};
 ghost use Rattle.rules.specs.Units.{correctionLimit};
-ghost use Rattle.rules.specs.Image.{gridOf};
-ghost use Rattle.rules.specs.Limits.{CornersWithin};
-ghost use Rattle.rules.specs.Bilinear.{bilinear};
+ghost use Rattle.rules.specs.Image.{gridOf, rows, columns};
+ghost use Rattle.rules.specs.Limits.{Open, CornersWithin};
+ghost use Rattle.bilinear.specs.Mean.{near};
 ghost use Rattle.rules.specs.Lookup.{heightLookup, heightLookupOf};
 ghost use Rattle.lookup.specs.Held.{runOf, runsOf, planeOf, layoutFrom, cornersPass, heldAt, liesIn, offsetsOf, placeIn};
-ghost use Rattle.lookup.specs.Held.{square, InCellOf, correctionsIn, heightIn};
+ghost use Rattle.lookup.specs.Held.{square, cellCorners, SpacingsPass, InCellOf, valueIn, valuesIn, correctionsIn, heightIn};
+ghost use Rattle.lookup.specs.Held.{pointLookup, pointLookupOf};
 ghost use Rattle.lookup.specs.Held.{Bounded, OpenAround, HeldFor, Holds};
 
 // A cell read from an image: the distance of its south side from the south bound and of its west side from the west bound, each plane's
@@ -37,6 +42,25 @@ pub struct HeldCell {
     pub longitude: Square,
     pub height: Square,
     pub passes: bool,
+}
+
+// Each plane's values at the corners of a cell.
+pub struct CellCorners {
+    pub latitude: Square,
+    pub longitude: Square,
+    pub height: Square,
+}
+
+// The corrections and the quasi-geoid height at a point.
+pub struct PointValues {
+    pub correction: Correction,
+    pub height: i64,
+}
+
+// What the lookup of all values at a point answers: they, or a refusal.
+pub enum PointLookup {
+    Values(PointValues),
+    Refused(Refusal),
 }
 
 // How far a point lies from the south and from the west bound.
@@ -60,10 +84,11 @@ pub fn cell_around(image: &[u8], g: Geometry, r: Runs, p: Point) -> HeldCell
     let from = offsets_of(g, p);
     let row = locate(g.latitude, from.northing);
     let column = locate(g.longitude, from.easting);
-    let latitude = corners_at(image, plane_of(g, r.latitude), row.cell, column.cell);
-    let longitude = corners_at(image, plane_of(g, r.longitude), row.cell, column.cell);
-    let height = corners_at(image, plane_of(g, r.height), row.cell, column.cell);
-    let passes = corners_pass(latitude, longitude, height);
+    let c = corners_around(image, g, r, row.cell, column.cell);
+    let latitude = c.latitude;
+    let longitude = c.longitude;
+    let height = c.height;
+    let passes = corners_pass(c);
     HeldCell {
         south: from.northing - row.part,
         west: from.easting - column.part,
@@ -72,6 +97,39 @@ pub fn cell_around(image: &[u8], g: Geometry, r: Runs, p: Point) -> HeldCell
         height,
         passes,
     }
+}
+
+// The corners of the cell of a row and a column, of each plane.
+fn corners_around(image: &[u8], g: Geometry, r: Runs, row: u64, column: u64) -> CellCorners
+    requires { ⌜ Open (length (now image)) (layoutFrom g r) × ((row + 1 < rows g) × (column + 1 < columns g)) ⌝ }
+    ensures { λ c. ⌜ c ≡ cellCorners (gridOf (now (image .entry)) (layoutFrom g r)) row column ⌝ }
+{
+    let latitude = corners_at(image, plane_of(g, r.latitude), row, column);
+    let longitude = corners_at(image, plane_of(g, r.longitude), row, column);
+    let height = corners_at(image, plane_of(g, r.height), row, column);
+    CellCorners {
+        latitude,
+        longitude,
+        height,
+    }
+}
+
+// The lookup of all values at a point in the bounds: question 9 for its cell, then the values. The way back asks for them once, and holds
+// no cell.
+pub fn look_up(image: &[u8], g: Geometry, r: Runs, p: Point) -> PointLookup
+    requires { ⌜ OpenAround (now image) (layoutFrom g r) p ⌝ }
+    ensures { λ v. ⌜ pointLookupOf v ≡ pointLookup (gridOf (now (image .entry)) (layoutFrom g r)) p ⌝ }
+{
+    let from = offsets_of(g, p);
+    let row = locate(g.latitude, from.northing);
+    let column = locate(g.longitude, from.easting);
+    let c = corners_around(image, g, r, row.cell, column.cell);
+    if !corners_pass(c) {
+        return PointLookup::Refused(Refusal::NodeLimits);
+    }
+    let u = row.part;
+    let v = column.part;
+    PointLookup::Values(values_between(c, g, PlaceInCell { u, v }))
 }
 
 // What `cell_around` takes of a layout: where each plane's values begin, and how far apart they lie.
@@ -109,9 +167,12 @@ fn plane_of(geometry: Geometry, r: Run) -> Plane
 }
 
 // Question 9 of the three values at a cell's corners.
-fn corners_pass(latitude: Square, longitude: Square, height: Square) -> bool
-    ensures { λ r. ⌜ r ≡ cornersPass latitude longitude height ⌝ }
+fn corners_pass(c: CellCorners) -> bool
+    ensures { λ r. ⌜ r ≡ cornersPass c ⌝ }
 {
+    let latitude = c.latitude;
+    let longitude = c.longitude;
+    let height = c.height;
     if square_passes(latitude, CORRECTION_LIMIT) {
         if square_passes(longitude, CORRECTION_LIMIT) {
             square_passes(height, QUASI_GEOID_LIMIT)
@@ -156,8 +217,8 @@ pub fn corrections_in(h: HeldCell, g: Geometry, p: Point) -> Correction
     let at = place_in(h, g, p);
     let a = h.latitude;
     let b = h.longitude;
-    let latitude = value_between(a.southwest, a.southeast, a.northwest, a.northeast, g, at);
-    let longitude = value_between(b.southwest, b.southeast, b.northwest, b.northeast, g, at);
+    let latitude = value_between(a, g, at);
+    let longitude = value_between(b, g, at);
     Correction {
         latitude,
         longitude,
@@ -176,11 +237,66 @@ fn place_in(h: HeldCell, g: Geometry, p: Point) -> PlaceInCell
     }
 }
 
-// The value at a place in a cell, from those at its corners, which form a two by two square, south row first. As numbers they are passed
-// without a copy in memory.
-fn value_between(sw: i64, se: i64, nw: i64, ne: i64, g: Geometry, at: PlaceInCell) -> i64
+// The value at a place in a cell, from those at its corners. `weigh` makes the same choice; made here too, the near case is compiled into
+// the callers, and only the other is a call.
+fn value_between(c: Square, g: Geometry, at: PlaceInCell) -> i64
+    requires { ⌜ CornersWithin correctionLimit c × InCellOf g at ⌝ }
+    ensures { λ r. ⌜ r ≡ valueIn c g at ⌝ }
+{
+    if is_near(c, g) {
+        return near_value(c, g, at);
+    }
+    weighed(c.southwest, c.southeast, c.northwest, c.northeast, g, at)
+}
+
+// All three values there.
+fn values_between(c: CellCorners, g: Geometry, at: PlaceInCell) -> PointValues
+    requires { ⌜ (cornersPass c ≡ true) × InCellOf g at ⌝ }
+    ensures { λ r. ⌜ r ≡ valuesIn c g at ⌝ }
+{
+    let a = c.latitude;
+    let b = c.longitude;
+    let h = c.height;
+    let latitude = value_between(a, g, at);
+    let longitude = value_between(b, g, at);
+    let height = value_between(h, g, at);
+    let correction = Correction {
+        latitude,
+        longitude,
+    };
+    PointValues { correction, height }
+}
+
+// Are the corners of a cell near?
+fn is_near(c: Square, g: Geometry) -> bool
+    requires { ⌜ CornersWithin correctionLimit c × SpacingsPass g ⌝ }
+    ensures { λ r. ⌜ r ≡ near c (g .latitude .spacing * g .longitude .spacing) ⌝ }
+{
+    let area = g.latitude.spacing * g.longitude.spacing;
+    are_near(
+        [[c.southwest, c.southeast], [c.northwest, c.northeast]],
+        area,
+    )
+}
+
+// The value between near corners.
+fn near_value(c: Square, g: Geometry, at: PlaceInCell) -> i64
+    requires { ⌜ CornersWithin correctionLimit c × InCellOf g at × (near c (g .latitude .spacing * g .longitude .spacing) ≡ true) ⌝ }
+    ensures { λ r. ⌜ r ≡ valueIn c g at ⌝ }
+{
+    weigh_near(
+        [[c.southwest, c.southeast], [c.northwest, c.northeast]],
+        at.u,
+        at.v,
+        g.latitude.spacing,
+        g.longitude.spacing,
+    )
+}
+
+// The value between any corners, which form a two by two square, south row first. As numbers they are passed without a copy in memory.
+fn weighed(sw: i64, se: i64, nw: i64, ne: i64, g: Geometry, at: PlaceInCell) -> i64
     requires { ⌜ CornersWithin correctionLimit (square sw se nw ne) × InCellOf g at ⌝ }
-    ensures { λ r. ⌜ r ≡ bilinear (square sw se nw ne) (at .u) (at .v) (g .latitude .spacing) (g .longitude .spacing) ⌝ }
+    ensures { λ r. ⌜ r ≡ valueIn (square sw se nw ne) g at ⌝ }
 {
     weigh(
         [[sw, se], [nw, ne]],
@@ -212,8 +328,9 @@ pub fn look_up_height(image: &[u8], l: Layout, q: Point) -> HeightLookup
     height_in(cell_around(image, g, runs_of(l), q), g, q)
 }
 
-// The quasi-geoid height at a point in a held cell: question 9 as the cell answers it, then the value between its heights.
-pub fn height_in(h: HeldCell, g: Geometry, q: Point) -> HeightLookup
+// The quasi-geoid height at a point in a held cell: question 9 as the cell answers it, then the value between its heights, by the choice of
+// `value_between`. It stands here once more, because the compiler made calls of both cases where only one function had it.
+fn height_in(h: HeldCell, g: Geometry, q: Point) -> HeightLookup
     requires { ⌜ Holds h g q ⌝ }
     ensures { λ r. ⌜ heightLookupOf r ≡ heightIn h g q ⌝ }
 {
@@ -222,5 +339,8 @@ pub fn height_in(h: HeldCell, g: Geometry, q: Point) -> HeightLookup
     }
     let at = place_in(h, g, q);
     let c = h.height;
-    HeightLookup::Height(value_between(c.southwest, c.southeast, c.northwest, c.northeast, g, at))
+    if is_near(c, g) {
+        return HeightLookup::Height(near_value(c, g, at));
+    }
+    HeightLookup::Height(weighed(c.southwest, c.southeast, c.northwest, c.northeast, g, at))
 }

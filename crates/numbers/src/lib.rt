@@ -1,5 +1,5 @@
-// Numbers as the machine holds them: the size of a signed number, limits, the smaller and the larger of two, and the little-endian numbers
-// of an image.
+// Numbers as the machine holds them: the size of a signed number, the distance of two, limits, the smaller and the larger of two, and the
+// little-endian numbers of an image.
 ghost use mathlib.Core.Bool.{_&&_};
 ghost use mathlib.Core.Path.{_≡_};
 ghost use Prim.Native.Nat.{_+_, _≤_, _<_, min, max};
@@ -13,6 +13,17 @@ pub fn magnitude(z: i64) -> u64
     ensures { λ r. ⌜ r ≡ natAbs z ⌝ }
 {
     if z < 0 { (-1 - z) as u64 + 1 } else { z as u64 }
+}
+
+// How far two numbers are from each other. On one side of zero their difference fits; on both sides their distances from zero add up.
+pub fn distance(a: i64, b: i64) -> u64
+    ensures { λ r. ⌜ r ≡ natAbs (a -ℤ b) ⌝ }
+{
+    if (a < 0) == (b < 0) {
+        magnitude(a - b)
+    } else {
+        magnitude(a) + magnitude(b)
+    }
 }
 
 // At most `limit` from zero? No number of 64 bits is further from it than 2^63.

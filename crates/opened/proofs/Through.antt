@@ -3,8 +3,9 @@
 -- that every such function has.
 --     code             the MIR, over the types and the key of the function over the record
 --     Making, Lower    the contracts of `opened_image` and of the function over the record
---     through          the theorem
--- `through` takes `Given`, which the kit hands to every proof (types.Kit).
+--     through          the theorem, of the MIR
+--     entered-through  the same of the function's entry, where that of the function over the record is a routine that meets its contract
+-- `through` takes `Given`, which the kit hands to every proof (types.Kit), by its tables.
 use mathlib.Core.Path.{_≡_, refl, sym, subst}
 use Prim.Native.Nat.{ℕ}
 use mathlib.Core.List.{List, [], _∷_}
@@ -14,10 +15,12 @@ use mir.Val.{Val}
 use base.Logic.{SProp, ent, sep, snd∗, exE, id⊢}
 use base.Fml.{Lft, Share, Fml}
 use prog.Memory.{Memory}
-use prog.Routine.{Routine}
-use prog.Wp.{Heap, Calls, Loops, WpFn, Tables}
+use prog.Model.{Model}
+use prog.Routine.{Routine, Env}
+use prog.Wp.{Heap, Calls, Loops, WpFn, Closed, Tables}
 use ghost.Atoms.{Atoms, sem}
 use contract.Monad.{Fun, fact}
+use contract.Running.{GhostRules, Running, MachineTables, givenOf, tables, tablesOf}
 use types.Kit.{Given, Item, ‵, raw, _⊛_, ⋆, some, later, !, _$_, _∵_}
 use types.Kit.{qed, by, move, use1, use2, split, join, pick, fjoin, suffices, frame, await, done}
 use types.Run.{look, init, forget, stop, from, and-then, no-more, land, returns}
@@ -32,6 +35,7 @@ use denote.Triple.Statement.{Contract, Triple}
 use denote.Triple.Call.{calls-at}
 use denote.Triple.Entry.{Args, Vals, onEntry}
 use denote.Triple.Spec.{Meets, tripleOf}
+use denote.Triple.Table.{entered, cited}
 use denote.Triple.Clauses.{Clauses, closing, ensured, lasts}
 use denote.Triple.Walked.{says, needs, Stays, walkOf, ends-at, walked, walk-meets}
 use Rattle.rules.specs.declared.Layout.{Layout}
@@ -42,9 +46,11 @@ use Rattle.opened.proofs.Fields.{Bytes, slice, bytes-mir, bytes-stay, b
 use Rattle.opened.proofs.Steps.{token, copied}
 use Rattle.opened.proofs.Types.{Taken, Handed, row, laid, lowered, vals, tells, typed, makes, stays, goes}
 use Rattle.opened.proofs.Types.{Layout as TheLayout}
-use Rattle.opened.proofs.Over.{Own, Its, Asks, Tells, own-clauses, its-clauses, Caller}
+use Rattle.opened.proofs.Over.{Own, Its, Asks, Tells, own-clauses, its-clauses, Caller, Callee}
 use Rattle.opened.proofs.opened_image as opened-image
+use Rattle.opened.proofs.opened_image.Symbol as making-def
 use Rattle.opened.proofs.opened_image.Symbol.{name as #opened·opened-image}
+use Rattle.opened.proofs.opened_image.Met as making-thm
 
 abbrev pub code : Taken → Handed → Name → Fn
 code P R lower = record {
@@ -220,3 +226,20 @@ module _ {M : Type 1} (𝓤 : URA M) (H : Heap 𝓤) (A : Atoms 𝓤) (mem : Mem
       (λ κs qs bounds a g are. needs 𝓤 _ _ (λ asked.
       walk W lower (κs .0) (qs .0) (a .0) (a .1 .0) (a .1 .1 .0) asked (are .1 .0) (are .1 .1 .0)
       (𝓣 .C) (𝓣 .Λ) (fmOf 𝓤 H (W .laws) 𝓣) known-making known (are .0))))
+
+module _ {M : Type 1} (𝓤 : URA M) (H : Heap 𝓤) (𝓜 : Model 𝓤 H) (𝓖 : GhostRules 𝓤 H) (𝓡 : Running 𝓤 H 𝓜) (γ : Env)
+    (P : Taken) (R : Handed) (Ask : Asks P) (Tell : Tells P R) where
+  abbrev 𝓣 : MachineTables 𝓤 H 𝓜
+  𝓣 = tables 𝓤 H 𝓜 𝓡 γ
+
+  pub entered-through : (key lower : Name) → Closed 𝓤 H (𝓣 .C) (𝓣 .Λ) key (code P R lower)
+      → γ #opened·opened-image ≡ making-def.routine
+      → (r : Routine) → γ lower ≡ r → Triple 𝓤 (𝓡 .run r) (Caller 𝓤 H (𝓖 .A) P R Ask Tell)
+      → Triple 𝓤 (𝓣 .C key) (Callee 𝓤 H (𝓖 .A) P R Ask Tell)
+  unfolding tablesOf
+  entered-through key lower closed makes r e met =
+      let making : Contract 𝓤 = Making 𝓤 H (𝓖 .A) (𝓜 .mem) (𝓡 .run) P R Ask Tell in
+      entered 𝓤 H (Callee 𝓤 H (𝓖 .A) P R Ask Tell) (𝓣 .C) (𝓣 .Λ) key (code P R lower) closed
+      (through 𝓤 H (𝓖 .A) (𝓜 .mem) (𝓡 .run) P R Ask Tell (givenOf 𝓤 H 𝓜 𝓖) lower (tablesOf 𝓤 H 𝓜 𝓣)
+      (cited 𝓤 H making 𝓜 𝓡 γ #opened·opened-image making-def.routine makes (making-thm.met 𝓤 H 𝓜 𝓖 𝓡))
+      (cited 𝓤 H (Caller 𝓤 H (𝓖 .A) P R Ask Tell) 𝓜 𝓡 γ lower r e met))

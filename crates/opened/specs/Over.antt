@@ -2,16 +2,19 @@
 use mathlib.Core.List.{List}
 use mathlib.Core.Path.{_≡_}
 use Prim.Native.Nat.{ℕ}
+use lib.IntN.{ℤ}
 use lib.ListN.{length}
 use Rattle.rules.specs.declared.Layout.{Layout}
 use Rattle.rules.specs.declared.Point.{Point}
 use Rattle.rules.specs.declared.HeightLookup.{HeightLookup}
 use Rattle.rules.specs.declared.Answer.{Answer}
 use Rattle.rules.specs.declared.Way.the-variants as way
+use Rattle.rules.specs.Answers.{Outcome, ask, andThen}
 use Rattle.rules.specs.Image.{gridOf}
+use Rattle.rules.specs.Questions.{opening}
 use Rattle.rules.specs.Limits.{Open}
 use Rattle.rules.specs.Lookup.{heightLookup, heightLookupOf}
-use Rattle.rules.specs.Ways.{sourceOf, convertOver, answerOf}
+use Rattle.rules.specs.Ways.{Source, sourceOf, convertOver, answerOf}
 use Rattle.opened.specs.declared.Fix.{Fix}
 
 -- The bytes are open with this layout, whatever the fix.
@@ -25,3 +28,10 @@ IsLookup b l p r = heightLookupOf r ≡ heightLookup (gridOf b l) p
 -- The answer is the way out of the fix.
 abbrev pub IsOut : List ℕ → Layout → Fix → Answer → Type 0
 IsOut b l f r = answerOf r ≡ convertOver way.Out (sourceOf (gridOf b l)) (f .point) (f .height)
+
+-- The quasi-geoid height at any point over any image: questions 1 to 6, then 8, then the lookup, which puts question 9.
+unfoldable pub quasiGeoidHeight : List ℕ → Point → Outcome ℤ
+quasiGeoidHeight b q =
+    andThen (opening b) (λ l.
+    let s : Source = sourceOf (gridOf b l) in
+    ask (s .inside q) 8 (s .height q))

@@ -3,20 +3,27 @@
 // function over a record that holds a reference. So each of these is walked by hand (proofs/), and leaves the work to a function that the
 // kit covers, on the slice and the layout. An enum cannot hold a reference, so opening does not answer the record: the caller matches
 // `image::open` and makes the record of the layout found, as `way_out` does.
+use geometry::in_bounds;
 use image::layout_for;
 use image::open;
 use lookup::look_up_height;
 use rules::Answer;
 use rules::HeightLookup;
 use rules::Layout;
+use rules::Nodes;
 use rules::Opened;
 use rules::Point;
+use rules::Refusal;
 use rules::Way;
 use ways::convert_over;
 ghost use mathlib.Core.Path.{_≡_};
+ghost use Rattle.rules.specs.Answers.{values};
+ghost use Rattle.rules.specs.Image.{layoutFor};
+ghost use Rattle.rules.specs.Questions.{opening};
+ghost use Rattle.rules.specs.Lookup.{heightLookupOf};
 ghost use Rattle.rules.specs.Ways.{wayOut, answerOf};
 ghost use Rattle.lookup.specs.Held.{OpenAround};
-ghost use Rattle.opened.specs.Over.{Opens, IsLookup, IsOut};
+ghost use Rattle.opened.specs.Over.{Opens, IsLookup, IsOut, quasiGeoidHeight};
 
 // The lent bytes of an image, and the layout of its values.
 pub struct OpenedImage<'a> {
@@ -61,12 +68,19 @@ fn fix_out(bytes: &[u8], l: Layout, f: Fix) -> Answer
     convert_over(Way::Out, bytes, l, f.point, f.height)
 }
 
-// The record made and handed on. Its parameters are plain, so that its callers need no such walk.
+// The record made and handed on, for the way out and for the lookup. The parameters are plain, so that callers need no such walk.
 fn out_through(bytes: &[u8], layout: Layout, f: Fix) -> Answer
     requires { ⌜ Opens (now bytes) layout f ⌝ }
     ensures { λ r. ⌜ IsOut (now (bytes .entry)) layout f r ⌝ }
 {
     out_over_image(opened_image(bytes, layout), f)
+}
+
+fn look_up_through(bytes: &[u8], layout: Layout, p: Point) -> HeightLookup
+    requires { ⌜ OpenAround (now bytes) layout p ⌝ }
+    ensures { λ r. ⌜ IsLookup (now (bytes .entry)) layout p r ⌝ }
+{
+    look_up_in(opened_image(bytes, layout), p)
 }
 
 // The way out through an opened image, for every image, point and height: questions 1 to 6 first.
@@ -77,4 +91,26 @@ pub fn way_out(bytes: &[u8], p: Point, height: i64) -> Answer
         Opened::Nodes(n) => out_through(bytes, layout_for(n), Fix { point: p, height }),
         Opened::Refused(r) => Answer::Refused(r),
     }
+}
+
+// The quasi-geoid height through an opened image, for every image and point: questions 1 to 6 first.
+pub fn quasi_geoid_height(bytes: &[u8], q: Point) -> HeightLookup
+    ensures { λ r. ⌜ heightLookupOf r ≡ quasiGeoidHeight (now (bytes .entry)) q ⌝ }
+{
+    match open(bytes) {
+        Opened::Nodes(n) => height_over_nodes(bytes, n, q),
+        Opened::Refused(r) => HeightLookup::Refused(r),
+    }
+}
+
+// The same over an opened image: question 8, then the lookup.
+fn height_over_nodes(bytes: &[u8], n: Nodes, q: Point) -> HeightLookup
+    requires { ⌜ opening (now bytes) ≡ values (layoutFor n) ⌝ }
+    ensures { λ r. ⌜ heightLookupOf r ≡ quasiGeoidHeight (now (bytes .entry)) q ⌝ }
+{
+    let l = layout_for(n);
+    if !in_bounds(l.latitude.geometry, q) {
+        return HeightLookup::Refused(Refusal::OutsideBounds);
+    }
+    look_up_through(bytes, l, q)
 }

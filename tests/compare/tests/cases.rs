@@ -1,9 +1,10 @@
 //! The made-up calls hold what they are made up for: every number and count, every place at which
 //! the way out can be refused, exact halves, points on the bounds, limits of the geometry.
 
+use compare::cases::values::NEAR;
 use compare::{cases, Call, Coverage, List, Reference, Way};
 use reference::{
-    exact_values, grid_check, lookup, open_image, Axis, Image, Number, Point, Trailer,
+    exact_values, grid_check, lookup, open_image, Axis, Image, Node, Number, Point, Trailer,
 };
 use std::collections::BTreeSet;
 
@@ -126,9 +127,8 @@ fn the_way_out_stays_in_its_cell_and_leaves_it() {
     assert_eq!(stays.len(), 2, "{stays:?}");
 }
 
-/// The library weighs what the corners have above their least one, with one division where the
-/// sum of corner times weight is sure to fit 64 bits. The largest difference between the corners
-/// of a point's cell, times the cell's area, is the most that this sum can be.
+/// The library weighs corners with one division where each lies at most NEAR from the south-west
+/// one and the cell's area is at most 2^48. Both sides of both limits occur for each value.
 #[test]
 fn corners_lie_near_each_other_and_far_apart_for_each_value() {
     let mut met = BTreeSet::new();
@@ -141,12 +141,15 @@ fn corners_lie_near_each_other_and_far_apart_for_each_value() {
             .map(|(north, east)| image.node(row.cell + north, column.cell + east));
         let area = image.latitude_spacing * image.longitude_spacing;
         for value in 0..3 {
-            let values = corners.map(|node| i128::from(node[value]));
-            let apart = values.iter().max().unwrap() - values.iter().min().unwrap();
-            met.insert((value, apart * area > u64::MAX.into()));
+            let from_southwest =
+                |node: &Node| i64::from(node[value]) - i64::from(corners[0][value]);
+            let furthest = corners.iter().map(|it| from_southwest(it).abs()).max();
+            let beyond = furthest.expect("four corners") - NEAR;
+            met.insert((value, beyond.clamp(-1, 2), area <= 1 << 48));
         }
+        met.insert((3, 0, area == 1 << 48));
     });
-    assert_eq!(met.len(), 6, "{met:?}");
+    assert_eq!(met.len(), 3 * 4 * 2 + 2, "{met:?}");
 }
 
 #[test]

@@ -1,125 +1,87 @@
--- `back::back_from` meets its contract: the corrections in the cell around the point, what the height's lookup ensures, and the sums.
-use mathlib.Core.Bool.{true}
+-- `back::back_from` meets its contract: what the lookup of all values finds at the point, and the sums.
 use mathlib.Core.Path.{_≡_, sym, ap, _∙_}
-use borrow.Author.Tests.{not-true, not-false}
 use denote.Ref.{now}
 use mir.Syntax.{w64}
 use mir.Val.{toZ, ofZ}
 use mir.Facts.{toZ-ofZ}
 use Rattle.integers.specs.Machine.{reads-back}
-use Rattle.rules.specs.Answers.{values, number, numberOf}
+use Rattle.rules.specs.Answers.{values}
 use Rattle.rules.specs.Image.{Grid, gridOf}
-use Rattle.rules.specs.Lookup.{correctionLookup, heightLookup, heightLookupOf}
+use Rattle.rules.specs.Lookup.{correctionLookup, heightLookup}
 use Rattle.rules.specs.Ways.{back}
-use Rattle.rules.proofs.Answers.{answered-yes, answered-no}
 use Rattle.rules.proofs.Cells.{point-within}
-use Rattle.lookup.specs.Held.{heldAt, Holds}
-use Rattle.lookup.proofs.Found.{around-runs, held-runs, around-holds, height-around, corrections-from, corrections-within, height-within}
+use Rattle.lookup.specs.Held.{Bounded, pointLookup, pointLookupOf}
+use Rattle.lookup.proofs.Found.{bounded, around-runs, point-runs, both-found, corrections-refused, found-within, height-within}
 use borrow.Author.Needs.{needs}
 use Rattle.back.proofs.back_from.Statement.{statement}
 use Rattle.back.proofs.back_from.Tie as tie
 
--- the grid
+-- the grid, and the point in its bounds
 abbrev grid : tie.Start → Grid
 grid s = gridOf (now (s .args .image)) (s .args .l)
 
--- the cell that is read is the one around the point
-abbrev begun : tie.After-cell-around → tie.Start
-begun c = c .before .before .before .before
+in-bounds : (s : tie.Start) → Bounded (grid s .corrections) (s .args .q)
+in-bounds s = bounded (s .pre .0 .layout .latitude .geometry) (s .pre .0 .point)
 
-held : (c : tie.After-cell-around) → let s = begun c in c .cell-around .result ≡ heldAt (grid s) (s .args .q)
-held c = held-runs _ (begun c .pre .0 .layout) (c .before .runs-of .ensures) _ (c .cell-around .ensures)
+look-up-requires : tie.Need-look-up-requires
+look-up-requires c κs = let o = c .before .before .before .pre .0 in around-runs _ (o .layout) (c .runs-of .ensures) (o .point)
 
--- where it passes question 9
-abbrev around : tie.Else1 → tie.After-cell-around
-around c = c .before .before
+-- what is looked up, in each arm
+abbrev start : tie.After-look-up → tie.Start
+start c = c .before .before .before .before
 
-abbrev start : tie.Else1 → tie.Start
-start c = begun (around c)
+looked : (c : tie.After-look-up) → let s = start c in pointLookup (grid s) (s .args .q) ≡ pointLookupOf (c .look-up .result)
+looked c = sym (point-runs _ (start c .pre .0 .layout) (c .before .runs-of .ensures) _ (c .look-up .ensures))
 
-passes : (c : tie.Else1) → around c .cell-around .result .passes ≡ true
-passes c = not-false _ (c .if1 .left)
+abbrev begun : tie.After-v → tie.Start
+begun c = start (c .before .before)
 
-holds : (c : tie.Else1) → let s = start c in Holds (around c .cell-around .result) (grid s .corrections) (s .args .q)
-holds c = around-holds (start c .pre .0) (held (around c))
+found : (c : tie.After-v) → let s = begun c in
+    let v = c .v .given .0 .0 in
+    (correctionLookup (grid s) (s .args .q) ≡ values (v .correction)) × (heightLookup (grid s) (s .args .q) ≡ values (v .height))
+found c =
+    let s = begun c in
+    both-found (grid s) (s .args .q) _ (s .pre .0 .layout .height-geometry) (looked (c .before .before) ∙ ap pointLookupOf (c .v .given .1))
 
--- the corrections, and the height in each arm
-corrected : (c : tie.After-corrections-in) → let s = start (c .before) in
-    correctionLookup (grid s) (s .args .q) ≡ values (c .corrections-in .result)
-corrected c =
-    let e = c .before in
-    let s = start e in
-    let a = around e .cell-around in
-    corrections-from (grid s) (s .args .q) _ (held (around e))
-    ∙ answered-yes (a .result .passes) 9 _ (passes e)
-    ∙ ap values (sym (c .corrections-in .ensures))
+-- the height found is read back as it is
+read : (c : tie.After-struct-told) → let z = c .before .before .before .v .given .0 .0 .height in toZ w64 (ofZ w64 z) ≡ z
+read c = reads-back w64 _ (c .struct-told .given .1 .0 .1)
 
-looked : (c : tie.After-height-in) → let s = start (c .before .before) in
-    heightLookup (grid s) (s .args .q) ≡ heightLookupOf (c .height-in .result)
-looked c = let e = c .before .before in height-around (start e .pre .0) (held (around e)) ∙ sym (c .height-in .ensures)
-
-found : (c : tie.After-z) → let s = start (c .before .before .before .before) in
-    heightLookup (grid s) (s .args .q) ≡ values (c .z .given .0 .0)
-found c = looked (c .before .before) ∙ ap heightLookupOf (c .z .given .1)
-
-refused : (c : tie.After-r) → let s = start (c .before .before .before .before) in
-    heightLookup (grid s) (s .args .q) ≡ number (numberOf (c .r .given .0 .0))
-refused c = looked (c .before .before) ∙ ap heightLookupOf (c .r .given .1)
+added-requires : tie.Need-added-requires
+added-requires c κs =
+    let v = c .before .before .before in
+    let s = begun v in
+    let b = in-bounds s in (
+      point-within _ (s .args .q) (b .geometry) (b .point),
+      rw (toZ-ofZ (s .fits .height)) (s .pre .1),
+      found-within (grid s) (s .args .q) _ b (found v .0),
+      rw (read c) (height-within (grid s) (s .args .q) _ b (s .pre .0 .layout .height-geometry) (found v .1)),
+    )
 
 returns : tie.Need-returns
 unfolding back
 returns c =
-    let a = c .before .before in
-    let s = begun a in
-    let no = answered-no (a .cell-around .result .passes) 9 _ (not-true _ (c .if1 .taken)) in
-    rw (corrections-from (grid s) (s .args .q) _ (held a) ∙ no)
-
-cell-around-requires : tie.Need-cell-around-requires
-cell-around-requires c κs = let o = c .before .before .before .pre .0 in around-runs _ (o .layout) (c .runs-of .ensures) (o .point)
-
-corrections-in-requires : tie.Need-corrections-in-requires
-corrections-in-requires c κs = (passes c, holds c)
-
--- the height found is read back as it is
-read : (c : tie.After-known-told) → let z = c .before .z .given .0 .0 in toZ w64 (ofZ w64 z) ≡ z
-read c = reads-back w64 _ (c .known-told .given .0 .1)
-
-added-requires : tie.Need-added-requires
-added-requires c κs =
-    let z = c .before in
-    let v = z .before .before .before in
-    let e = v .before in
-    let s = start e in (
-      point-within _ (s .args .q) (holds e .bounded .geometry) (holds e .bounded .point),
-      rw (toZ-ofZ (s .fits .height)) (s .pre .1),
-      rw (v .corrections-in .ensures) (corrections-within (passes e) (holds e)),
-      rw (read c) (height-within (grid s) (s .args .q) _ (holds e .bounded) (s .pre .0 .layout .height-geometry) (found z)),
-    )
+    let t = c .before in
+    let v = t .before .before .before in
+    let s = begun v in
+    rw (found v .0, found v .1) (ap values (rw (toZ-ofZ (s .fits .height), read t) at (c .added .ensures)))
 
 returns-2 : tie.Need-returns-2
 unfolding back
 returns-2 c =
-    let t = c .before in
-    let z = t .before in
-    let v = z .before .before .before in
-    let s = start (v .before) in
-    rw (corrected v, found z) (ap values (rw (toZ-ofZ (s .fits .height), read t) at (c .added .ensures)))
-
-returns-3 : tie.Need-returns-3
-unfolding back
-returns-3 c = rw (corrected (c .before .before .before .before), refused (c .before))
+    let r = c .before in
+    let k = r .before .before in
+    let s = start k in
+    rw (corrections-refused (grid s) (s .args .q) _ (looked k ∙ ap pointLookupOf (r .r .given .1)))
 
 pub back-from-spec : {M : Type 1} → statement M
 back-from-spec =
     tie.close
     (tie.spec
     (λ c κs. search needs)
-    cell-around-requires
-    returns
-    corrections-in-requires
-    (λ c κs. holds (c .before))
+    look-up-requires
     (λ c. search needs)
     added-requires
     (λ c. search needs)
-    returns-2
-    returns-3)
+    returns
+    returns-2)

@@ -1,4 +1,4 @@
--- `bilinear::weigh` meets its contract: the value lies above the least corner by the mean of the corners' gaps.
+-- `bilinear::weigh` meets its contract: of corners that are not near, the value lies above the least by the mean of the gaps.
 use mathlib.Core.Path.{_≡_, sym, _∙_}
 use Prim.Native.Nat.{ℕ, _*_, _≤_}
 use native.Mathlib.Omega.{arith}
@@ -12,20 +12,34 @@ use Rattle.rules.specs.Units.{correctionLimit}
 use Rattle.rules.specs.Limits.{CornersWithin}
 use Rattle.rules.specs.Bilinear.{squareOf}
 use Rattle.bilinear.specs.Mean.{leastOf, Below}
+use Rattle.bilinear.proofs.Mixes.{area-most}
 use Rattle.bilinear.proofs.Gaps.{Gaps, Under, under, read-corner, gaps-most, mean-most, value-above}
 use borrow.Author.Needs.{needs}
 use Rattle.bilinear.proofs.weigh.Statement.{statement}
 use Rattle.bilinear.proofs.weigh.Tie as tie
 
+mul-are-near : tie.Need-mul-are-near
+mul-are-near c = let cell = c .pre .1 in omega (arith, area-most (cell .latitude-spacing) (cell .longitude-spacing))
+
+weigh-near-requires : tie.Need-weigh-near-requires
+weigh-near-requires c κs =
+    let n = c .before in
+    let pre = n .before .pre in
+    (pre .0, pre .1, sym (n .are-near .ensures) ∙ c .if1 .taken)
+
+-- Where the corners are not near.
+abbrev start : tie.After-least-of → tie.Start
+start l = l .before .before .before
+
 -- The corners, the least of them as the machine reads it back, and what holds of each corner beside it.
 abbrev square : tie.After-least-of → Square
-square l = squareOf (l .before .args .t1)
+square l = squareOf (start l .args .t1)
 
 abbrev least-read : tie.After-least-of → ℤ
 least-read l = toZ w64 (ofZ w64 (l .least-of .result))
 
 abbrev within : (l : tie.After-least-of) → CornersWithin correctionLimit (square l)
-within l = l .before .pre .0
+within l = start l .pre .0
 
 least : (l : tie.After-least-of) → least-read l ≡ leastOf (square l)
 least l = told w64 (l .least-of .ok) (l .least-of .ensures)
@@ -92,26 +106,30 @@ below : (c : tie.After-gap4)
 below c = let l = least-at c in gaps-most (leastOf (square l)) (least-under l .near) (within l) (gaps c)
 
 rounded-mean-requires : tie.Need-rounded-mean-requires
-rounded-mean-requires c κs = (below c, least-at c .before .pre .1)
+rounded-mean-requires c κs = (below c, start (least-at c) .pre .1)
 
 above-least-requires : tie.Need-above-least-requires
 above-least-requires c κs =
     let l = least-at (c .before) in
     let near : natAbs (least-read l) ≤ correctionLimit = rw (least l) (least-under l .near) in
-    (omega (arith, near), mean-most (l .before .pre .1) (below (c .before)) (c .rounded-mean .ensures))
+    (omega (arith, near), mean-most (start l .pre .1) (below (c .before)) (c .rounded-mean .ensures))
 
-returns : tie.Need-returns
-returns c =
+returns-2 : tie.Need-returns-2
+returns-2 c =
     let m = c .before in
     let l = least-at (m .before) in
     told w64 (c .above-least .ok) (c .above-least .ensures)
     ∙ (λ i. least l i +ℤ pos (m .rounded-mean .result))
-    ∙ sym (value-above (l .before .pre .1) (gaps (m .before)) (m .rounded-mean .ensures))
+    ∙ sym (value-above (start l .pre .1) (gaps (m .before)) (m .rounded-mean .ensures))
 
 pub weigh-spec : {M : Type 1} → statement M
 weigh-spec =
     tie.close
     (tie.spec
+    mul-are-near
+    (λ c κs. search needs)
+    weigh-near-requires
+    (λ c. search needs)
     (λ c κs. search needs)
     (λ c. search needs)
     (λ c. search needs)
@@ -127,4 +145,4 @@ weigh-spec =
     gap-requires-4
     rounded-mean-requires
     above-least-requires
-    returns)
+    returns-2)

@@ -1,17 +1,18 @@
 -- `lookup::height_in` meets its contract: question 9 as the cell answers it, then the value between its heights.
 use mathlib.Core.Bool.{true}
 use mathlib.Core.Path.{_≡_, sym, ap, subst, _∙_}
-use native.Mathlib.Omega.{arith}
 use borrow.Author.Tests.{not-true, not-false}
 use mir.Syntax.{w64}
 use Rattle.integers.specs.Machine.{told}
+use Rattle.rules.specs.declared.Square.{Square}
 use Rattle.rules.specs.Units.{correctionLimit}
 use Rattle.rules.specs.Answers.{values}
 use Rattle.rules.specs.Limits.{CornersWithin}
-use Rattle.rules.specs.Bilinear.{bilinear}
 use Rattle.rules.proofs.Answers.{answered-yes, answered-no}
-use Rattle.lookup.specs.Held.{valueBetween}
-use Rattle.lookup.proofs.Found.{passing, readBack, square-back}
+use Rattle.lookup.specs.declared.PlaceInCell.{PlaceInCell}
+use Rattle.lookup.specs.Held.{InCellOf, valueIn, heightIn}
+use Rattle.lookup.proofs.Found.{passing, heights-within}
+use Rattle.lookup.proofs.Squares.{readBack, square-back}
 use borrow.Author.Needs.{needs}
 use Rattle.lookup.proofs.height_in.Statement.{statement}
 use Rattle.lookup.proofs.height_in.Tie as tie
@@ -23,34 +24,65 @@ start c = c .before .before
 passes : (c : tie.Else1) → start c .args .h .passes ≡ true
 passes c = not-false _ (c .if1 .left)
 
--- the heights, as they are passed
-abbrev placed : tie.After-struct-told4 → tie.After-place-in
-placed c = c .before .before .before .before .before
+-- its heights, and the point's place
+abbrev passed : tie.After-place-in → tie.Else1
+passed t = t .before
 
-heights : (c : tie.After-struct-told4) → let h = start (placed c .before) .args .h in readBack (h .height) ≡ h .height
-heights c = let f = c .before .before .before .struct-told .given in square-back _ (f .0 .1) (f .1 .0 .1) (f .1 .1 .0 .1) (f .1 .1 .1 .0 .1)
+within : (t : tie.After-place-in) → CornersWithin correctionLimit (start (passed t) .args .h .height)
+within t = let e = passed t in heights-within (passing (start e .pre) (passes e) .height)
+
+place : (t : tie.After-place-in) → InCellOf (start (passed t) .args .g) (t .place-in .result)
+place t = let s = start (passed t) in subst (InCellOf (s .args .g)) (sym (t .place-in .ensures)) (s .pre .place)
+
+-- the value there is what the contract wants
+height-is : (t : tie.After-place-in) → let s = start (passed t) .args in
+    values (valueIn (s .h .height) (s .g) (t .place-in .result)) ≡ heightIn (s .h) (s .g) (s .q)
+height-is t =
+    let s = start (passed t) .args in
+    ap (λ (at : PlaceInCell). values (valueIn (s .h .height) (s .g) at)) (t .place-in .ensures)
+    ∙ sym (answered-yes (s .h .passes) 9 _ (passes (passed t)))
 
 returns : tie.Need-returns
 returns c = let s = c .before .before .args in sym (answered-no (s .h .passes) 9 _ (not-true _ (c .if1 .taken)))
 
-value-between-requires : tie.Need-value-between-requires
-value-between-requires c κs =
-    let t = placed c in
-    let s = start (t .before) in
-    let h = passing (s .pre) (passes (t .before)) .height in
-    let w : CornersWithin correctionLimit (s .args .h .height) = omega arith in
-    (subst (CornersWithin correctionLimit) (sym (heights c)) w, rw (t .place-in .ensures) (s .pre .place))
+is-near-requires : tie.Need-is-near-requires
+is-near-requires c κs = let t = c .before in (within t, (place t .latitude-spacing, place t .longitude-spacing))
+
+near-value-requires : tie.Need-near-value-requires
+near-value-requires c κs =
+    let n = c .before in
+    let t = n .before .before in
+    (within t, place t, sym (n .is-near .ensures) ∙ c .if2 .taken)
 
 returns-2 : tie.Need-returns-2
-unfolding valueBetween
-returns-2 c =
-    let t = placed (c .before) in
-    let s = start (t .before) .args in
-    let P = s .g .latitude .spacing in
-    let Q = s .g .longitude .spacing in
-    let at = t .place-in .ensures in
-    let z = told w64 (c .value-between .ok) (c .value-between .ensures ∙ (λ i. bilinear (heights (c .before) i) (at i .u) (at i .v) P Q)) in
-    ap values z ∙ sym (answered-yes (s .h .passes) 9 _ (passes (t .before)))
+returns-2 c = ap values (told w64 (c .near-value .ok) (c .near-value .ensures)) ∙ height-is (c .before .before .before .before)
+
+-- the heights, as they are passed
+abbrev placed : tie.After-struct-told4 → tie.After-place-in
+placed c = c .before .before .before .before .before .before .before
+
+heights : (c : tie.After-struct-told4) → let h = start (passed (placed c)) .args .h in readBack (h .height) ≡ h .height
+heights c = let f = c .before .before .before .struct-told .given in square-back _ (f .0 .1) (f .1 .0 .1) (f .1 .1 .0 .1) (f .1 .1 .1 .0 .1)
+
+weighed-requires : tie.Need-weighed-requires
+weighed-requires c κs = let t = placed c in (subst (CornersWithin correctionLimit) (sym (heights c)) (within t), place t)
+
+returns-3 : tie.Need-returns-3
+returns-3 c =
+    let k = c .before in
+    let t = placed k in
+    let s = start (passed t) .args in
+    let z = c .weighed .ensures ∙ ap (λ (q : Square). valueIn q (s .g) (t .place-in .result)) (heights k) in
+    ap values (told w64 (c .weighed .ok) z) ∙ height-is t
 
 pub height-in-spec : {M : Type 1} → statement M
-height-in-spec = tie.close (tie.spec returns (λ c κs. search needs) value-between-requires returns-2)
+height-in-spec =
+    tie.close
+    (tie.spec
+    returns
+    (λ c κs. search needs)
+    is-near-requires
+    near-value-requires
+    returns-2
+    weighed-requires
+    returns-3)

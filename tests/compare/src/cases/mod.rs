@@ -6,7 +6,7 @@ mod geometry;
 mod grid;
 mod lists;
 mod notations;
-mod values;
+pub mod values;
 
 use crate::random::Random;
 use crate::{Call, Way};

@@ -1,4 +1,5 @@
-//! Made-up values of nodes: constant, smooth, steep, rough, and at their limits.
+//! Made-up values of nodes: constant, smooth, steep, rough, at their limits, and as far apart as
+//! the library still weighs with one division.
 
 use crate::random::Random;
 use reference::{Node, Trailer};
@@ -19,7 +20,13 @@ pub enum Manner {
     Rough,
     /// At and just below the limits.
     Extreme,
+    /// As far apart as the library still takes for near, and one further.
+    NearlyApart,
 }
+
+/// The library weighs corners with one division where each lies at most so far from the
+/// south-west one.
+pub const NEAR: i64 = 32_767;
 
 pub fn any_manner(random: &mut Random) -> Manner {
     random.pick(&[
@@ -29,6 +36,7 @@ pub fn any_manner(random: &mut Random) -> Manner {
         Manner::Rough,
         Manner::Rough,
         Manner::Extreme,
+        Manner::NearlyApart,
     ])
 }
 
@@ -77,6 +85,12 @@ fn plane(random: &mut Random, trailer: &Trailer, value: usize, manner: Manner) -
         Manner::Extreme => (0..length)
             .map(|_| random.pick(&[limit, -limit, limit - 1, 1 - limit, 0]))
             .collect(),
+        Manner::NearlyApart => {
+            let around = random.around_zero(reach);
+            (0..length)
+                .map(|_| around + random.pick(&[0, NEAR, -NEAR, NEAR + 1, -NEAR - 1]))
+                .collect()
+        }
     }
 }
 

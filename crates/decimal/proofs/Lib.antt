@@ -1,0 +1,2 @@
+-- What reading digit by digit says of a text.
+pub mod Reading

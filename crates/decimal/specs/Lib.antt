@@ -1,0 +1,2 @@
+-- What the contracts of reading a decimal number cite.
+pub mod Text

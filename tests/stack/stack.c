@@ -1,0 +1,119 @@
+/* Measures how much stack each call of the built library writes: not more than the figure in marker.h. Prints `ok NAME` or
+ * `FAILED NAME` for each call. Grid G's 148 bytes are read from standard input.
+ *
+ * A call is made on a stack of its own that is filled with one byte; what has another byte afterwards was written. */
+#include <inttypes.h>
+#include <stdio.h>
+#include <string.h>
+
+#include "marker.h"
+
+#define SIZE (9 * MARKER_NODE_LENGTH + MARKER_TRAILER_LENGTH)
+#define STACK_SIZE 65536
+#define FILLING 0xA5
+
+/* A function of the library, whatever it takes. */
+typedef void function(void);
+
+static uint8_t image[SIZE];
+static _Alignas(16) uint8_t stack[STACK_SIZE];
+static int failures = 0;
+
+/* Calls a function with up to six numbers or addresses; the stack pointer stands at the end of `stack` before. */
+static void call(function *called, const uint64_t given[6]) {
+    uint64_t first = given[0], second = given[1], third = given[2], fourth = given[3];
+    register uint64_t fifth __asm__("r8") = given[4];
+    register uint64_t sixth __asm__("r9") = given[5];
+    __asm__ volatile("mov %%rsp, %%rbx\n\t"
+                     "mov %[end], %%rsp\n\t"
+                     "call *%[called]\n\t"
+                     "mov %%rbx, %%rsp"
+                     : "+D"(first), "+S"(second), "+d"(third), "+c"(fourth), "+r"(fifth), "+r"(sixth)
+                     : [end] "r"(stack + STACK_SIZE), [called] "r"(called)
+                     : "rax", "rbx", "r10", "r11", "memory", "cc", "xmm0", "xmm1", "xmm2", "xmm3", "xmm4", "xmm5", "xmm6", "xmm7", "xmm8",
+                       "xmm9", "xmm10", "xmm11", "xmm12", "xmm13", "xmm14", "xmm15");
+}
+
+static void check(function *called) {
+    int64_t findings[MARKER_FINDINGS_LENGTH];
+    call(called, (uint64_t[6]){(uintptr_t)image, SIZE, (uintptr_t)findings});
+}
+
+/* A list of fixes in and around grid G, one in ten past the limit of heights. */
+static void list(function *called) {
+    enum { SIDE = 15 };
+    int64_t fixes[SIDE * SIDE * MARKER_FIX_LENGTH], answers[SIDE * SIDE * MARKER_ANSWER_LENGTH];
+    for (int i = 0; i < SIDE * SIDE; i++) {
+        int64_t *fix = fixes + i * MARKER_FIX_LENGTH;
+        fix[MARKER_LATITUDE] = INT64_C(52000000000) + i / SIDE * 150 - 50;
+        fix[MARKER_LONGITUDE] = INT64_C(5000000000) + i % SIDE * 150 - 50;
+        fix[MARKER_HEIGHT] = i % 10 == 0 ? INT64_MAX : i;
+    }
+    call(called, (uint64_t[6]){(uintptr_t)image, SIZE, (uintptr_t)fixes, SIDE * SIDE * MARKER_FIX_LENGTH, (uintptr_t)answers,
+                               SIDE * SIDE * MARKER_ANSWER_LENGTH});
+}
+
+/* Some calls on grid G, and on it with each byte in turn changed. */
+static void on_images(function *called, void (*calls)(function *)) {
+    const uint8_t changes[] = {0, 1, 127, 255};
+    calls(called);
+    for (int i = 0; i < SIZE; i++) {
+        uint8_t before = image[i];
+        for (size_t k = 0; k < sizeof changes; k++) {
+            image[i] = changes[k];
+            calls(called);
+        }
+        image[i] = before;
+    }
+}
+
+static void checks(function *called) {
+    on_images(called, check);
+}
+
+static void lists(function *called) {
+    on_images(called, list);
+}
+
+static void readings(function *called) {
+    for (uint64_t minutes = 0; minutes < 200 * 60; minutes += 7) {
+        for (int k = 0; k < 5; k++) {
+            int64_t nd;
+            call(called, (uint64_t[6]){minutes % 2, minutes / 60, minutes % 61, minutes * 501, (uint8_t)"NSEWX"[k], (uintptr_t)&nd});
+        }
+    }
+}
+
+static void writings(function *called) {
+    for (int64_t nd = INT64_C(-200000000000); nd < INT64_C(200000000000); nd += 33333333) {
+        uint64_t notation[MARKER_NOTATION_LENGTH];
+        call(called, (uint64_t[6]){nd % 2 == 0, (uint64_t)nd, (uintptr_t)notation});
+    }
+}
+
+/* Makes the calls and compares what they wrote of the stack with the figure. A call writes at least its return address. */
+static void measure(const char *name, function *called, void (*calls)(function *), size_t figure) {
+    memset(stack, FILLING, STACK_SIZE);
+    calls(called);
+    size_t untouched = 0;
+    while (untouched < STACK_SIZE && stack[untouched] == FILLING) {
+        untouched++;
+    }
+    size_t written = STACK_SIZE - untouched;
+    bool fits = 0 < written && written <= figure;
+    printf("%s stack: %s writes %zu bytes, marker.h says %zu\n", fits ? "ok" : "FAILED", name, written, figure);
+    failures += fits ? 0 : 1;
+}
+
+int main(void) {
+    if (fread(image, 1, SIZE, stdin) != SIZE) {
+        fprintf(stderr, "stack: standard input is not grid G\n");
+        return 2;
+    }
+    measure("marker_grid_check", (function *)marker_grid_check, checks, MARKER_GRID_CHECK_STACK);
+    measure("marker_list_out", (function *)marker_list_out, lists, MARKER_LIST_OUT_STACK);
+    measure("marker_list_back", (function *)marker_list_back, lists, MARKER_LIST_BACK_STACK);
+    measure("marker_read_notation", (function *)marker_read_notation, readings, MARKER_READ_NOTATION_STACK);
+    measure("marker_write_notation", (function *)marker_write_notation, writings, MARKER_WRITE_NOTATION_STACK);
+    return failures == 0 ? 0 : 1;
+}
