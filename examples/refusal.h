@@ -12,19 +12,20 @@ static const char *meaning(enum marker_number number) {
     switch (number) {
     case MARKER_DONE: return "Nothing is refused.";
     case MARKER_REFUSED_IMAGE_LENGTH: return "The image is shorter than its trailer.";
-    case MARKER_REFUSED_EDITION: return "The image is of an edition that this code does not know.";
+    case MARKER_REFUSED_EDITION: return "The image is of an edition or a kind that this code does not know.";
     case MARKER_REFUSED_NODE_COUNT: return "The image has too few or too many rows or columns.";
     case MARKER_REFUSED_SPACING: return "A spacing of the image is zero or too large.";
     case MARKER_REFUSED_GRID_BOUNDS: return "A bound of the image is no latitude or longitude.";
     case MARKER_REFUSED_NODE_BYTES: return "The image's back does not fit its rows and columns, or its length.";
     case MARKER_REFUSED_FIX_LIMITS: return "The fix is no latitude and longitude, or its height is past the limit.";
-    case MARKER_REFUSED_OUTSIDE_BOUNDS: return "The fix lies outside the image's bounds.";
+    case MARKER_REFUSED_OUTSIDE_BOUNDS: return "The fix lies outside the bounds of the corrections.";
     case MARKER_REFUSED_NODE_LIMITS: return "A node has a correction or a height past its limit.";
-    case MARKER_REFUSED_ITERATE_OUTSIDE: return "The way out left the image's bounds.";
+    case MARKER_REFUSED_ITERATE_OUTSIDE: return "The way out left the bounds of the corrections.";
     case MARKER_REFUSED_NOT_SETTLED: return "The way out has not settled after five evaluations.";
     case MARKER_REFUSED_SLOPE: return "The steps between neighbours are too large for the spacings.";
     case MARKER_REFUSED_BAD_NOTATION: return "The notation is no latitude or longitude.";
     case MARKER_REFUSED_LIST_LENGTHS: return "The lengths of fixes and answers do not fit each other.";
+    case MARKER_REFUSED_OFF_HEIGHT_GRID: return "The Bessel point lies off the height grid.";
     }
     return "This is no number of document 01.";
 }

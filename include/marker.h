@@ -5,7 +5,9 @@
  * length says, or as the declaration does; what is written overlaps nothing else that is passed. Where the length is 0, any
  * non-null pointer will do.
  * A function gives MARKER_DONE, or the number of the first of document 01's questions put to the call whose answer is no; then
- * what it was lent is unchanged. A list call puts 14 right after 6; 7 to 11 are put to each fix and stand in that fix's answer.
+ * what it was lent is unchanged. A list call puts 14 right after 6; 7 to 11 and 15 are put to each fix and stand in that fix's
+ * answer. An image of edition 2 has its corrections on one grid and its heights on another; 3 to 6 are put to both, each question
+ * to the correction grid and then to the height grid.
  */
 #ifndef MARKER_H
 #define MARKER_H
@@ -21,45 +23,70 @@ extern "C" {
 /* What a function gives, and what stands in an answer of a list: document 01's numbers. */
 enum marker_number {
     MARKER_DONE = 0,
-    MARKER_REFUSED_IMAGE_LENGTH = 1,     /* the image has fewer than 40 bytes */
-    MARKER_REFUSED_EDITION = 2,          /* its edition is not 1 */
+    MARKER_REFUSED_IMAGE_LENGTH = 1,     /* the image has fewer than 40 bytes, in edition 2 fewer than 80 */
+    MARKER_REFUSED_EDITION = 2,          /* its edition is not 1 or 2, or edition 2's kind is not 0 */
     MARKER_REFUSED_NODE_COUNT = 3,       /* its rows or columns are not from 2 to 4,096 */
     MARKER_REFUSED_SPACING = 4,          /* a spacing is not from 1 to 100,000,000 */
     MARKER_REFUSED_GRID_BOUNDS = 5,      /* a bound lies past 90 degrees (south, north) or 180 degrees (west, east) from zero */
-    MARKER_REFUSED_NODE_BYTES = 6,       /* back is not 12 * rows * columns + 40, or is above the image's length */
+    MARKER_REFUSED_NODE_BYTES = 6,       /* a back is not what it should be (below), or is above the image's length */
     MARKER_REFUSED_FIX_LIMITS = 7,       /* the fix's latitude is past 90 degrees, its longitude past 180, or its height past
                                             100,000,000 (out) or 110,000,000 (back) */
-    MARKER_REFUSED_OUTSIDE_BOUNDS = 8,   /* the fix's point is not in the image's bounds */
+    MARKER_REFUSED_OUTSIDE_BOUNDS = 8,   /* the fix's point is not in the bounds of the corrections */
     MARKER_REFUSED_NODE_LIMITS = 9,      /* a correction past 10,000,000 or a height past 1,000,000 at a corner of a cell used, or
-                                            at any node in the grid check */
+                                            at any node in the grid check. In edition 2 a cell of the correction grid has
+                                            corrections alone, and one of the height grid heights */
     MARKER_REFUSED_ITERATE_OUTSIDE = 10, /* out: one of the points p1 to p5 is not in the bounds */
     MARKER_REFUSED_NOT_SETTLED = 11,     /* out: the stop rule has not held after five evaluations */
     MARKER_REFUSED_SLOPE = 12,           /* grid check: 100 * (A * Q + B * P) is above P * Q for a value; A and B its findings
-                                            northward and eastward, P and Q the latitude and longitude spacing */
+                                            northward and eastward, P and Q its grid's latitude and longitude spacing */
     MARKER_REFUSED_BAD_NOTATION = 13,    /* minutes or seconds not below 60, a letter not of the axis, or an angle past 90 or 180
                                             degrees from zero */
-    MARKER_REFUSED_LIST_LENGTHS = 14     /* the fixes' length is not 3 * n and the answers' length 5 * n for the same n */
+    MARKER_REFUSED_LIST_LENGTHS = 14,    /* the fixes' length is not 3 * n and the answers' length 5 * n for the same n */
+    MARKER_REFUSED_OFF_HEIGHT_GRID = 15  /* edition 2: the Bessel point is not in the bounds of the height grid. Put after 11 going
+                                            out, and going back after 9 for the corrections; 9 for the heights comes last */
 };
 
-/* An image, in bytes; its numbers are little-endian. Bytes before the first node have no meaning. Then come rows * columns nodes:
- * the southern row first, each row from west to east. The trailer ends the image.
+/* An image, in bytes; its numbers are little-endian. Bytes before the first node have no meaning. Nodes stand in rows, the southern
+ * row first, each row from west to east. The trailer ends the image; its last number is the edition.
+ *
+ * Edition 1: rows * columns nodes, then the trailer.
  *
  *   node     0  int32_t   latitude correction, nd
  *            4  int32_t   longitude correction, nd
  *            8  int32_t   quasi-geoid height, units
  *
- *   trailer  0  int64_t   southern latitude, nd
- *            8  int64_t   western longitude, nd
- *           16  uint32_t  latitude spacing, nd
- *           20  uint32_t  longitude spacing, nd
- *           24  uint32_t  rows
- *           28  uint32_t  columns
+ *   trailer  0            geometry (below)
  *           32  uint32_t  back: the distance from the image's end to the first node, 12 * rows * columns + 40
  *           36  uint32_t  edition: 1
+ *
+ * Edition 2: the nodes of the correction grid, then those of the height grid, then the trailer; they touch each other.
+ *
+ *   correction node   0  int32_t   latitude correction, nd
+ *                     4  int32_t   longitude correction, nd
+ *
+ *   height node       0  int32_t   quasi-geoid height, units
+ *
+ *   trailer           0            geometry of the correction grid
+ *                    32            geometry of the height grid
+ *                    64  uint32_t  back to the first correction node, 8 * rows * columns (correction grid) + back to the first
+ *                                  height node
+ *                    68  uint32_t  back to the first height node, 4 * rows * columns (height grid) + 80
+ *                    72  uint32_t  kind: 0
+ *                    76  uint32_t  edition: 2
+ *
+ *   geometry  0  int64_t   southern latitude, nd
+ *             8  int64_t   western longitude, nd
+ *            16  uint32_t  latitude spacing, nd
+ *            20  uint32_t  longitude spacing, nd
+ *            24  uint32_t  rows
+ *            28  uint32_t  columns
  */
 enum {
     MARKER_NODE_LENGTH = 12,
-    MARKER_TRAILER_LENGTH = 40
+    MARKER_TRAILER_LENGTH = 40,
+    MARKER_CORRECTION_NODE_LENGTH = 8,
+    MARKER_HEIGHT_NODE_LENGTH = 4,
+    MARKER_TWO_GRID_TRAILER_LENGTH = 80
 };
 
 /* What stands where in a fix, which ends after its height, and in an answer. A refused fix's answer is four zeros and the number. */
@@ -68,7 +95,7 @@ enum {
     MARKER_LONGITUDE = 1,
     MARKER_HEIGHT = 2,
     MARKER_COUNT = 3,  /* the evaluations of the grid: 1 to 5 going out, 1 going back */
-    MARKER_NUMBER = 4, /* MARKER_DONE, or 7 to 11 going out; 7, 8 or 9 going back */
+    MARKER_NUMBER = 4, /* MARKER_DONE, or 7 to 11 or 15 going out; 7, 8, 9 or 15 going back */
     MARKER_FIX_LENGTH = 3,
     MARKER_ANSWER_LENGTH = 5
 };
@@ -106,10 +133,10 @@ enum {
  * reserved below it, and what is used of the red zone, the 128 bytes below the stack pointer that no handler may touch. It does not
  * grow with the image or the list. */
 enum {
-    MARKER_CODE_BYTES = 7754,
-    MARKER_GRID_CHECK_STACK = 144,
-    MARKER_LIST_OUT_STACK = 1080,
-    MARKER_LIST_BACK_STACK = 1080,
+    MARKER_CODE_BYTES = 11659,
+    MARKER_GRID_CHECK_STACK = 240,
+    MARKER_LIST_OUT_STACK = 1400,
+    MARKER_LIST_BACK_STACK = 1400,
     MARKER_READ_NOTATION_STACK = 8,
     MARKER_WRITE_NOTATION_STACK = 8
 };

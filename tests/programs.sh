@@ -1,4 +1,5 @@
-# What tests/gridcheck and tests/roundtrip share: inputs made from grid G's 148 bytes, and the comparison of what a program prints.
+# What tests/gridcheck and tests/roundtrip share: inputs made from grid G's 148 bytes and from an image of edition 2, and the comparison of
+# what a program prints.
 # To be sourced, with `program` set to the program's name. It is target/bin/NAME, written by `rt ci` or `rt check NAME`.
 # shellcheck shell=bash disable=SC2154
 set -u
@@ -21,15 +22,54 @@ answers() {
     fi
 }
 
+# byte NUMBER: writes one byte.
+byte() {
+    # shellcheck disable=SC2059
+    printf "\\x$(printf %02x "$1")"
+}
+
 # changed PLACE BYTE ..: the name of a file with G's bytes, of which those at the places are set.
 changed() {
-    cp "$grid" "$folder/image"
+    changed_from "$grid" "$@"
+}
+
+# changed_from FILE PLACE BYTE ..: the same from another file's bytes.
+changed_from() {
+    cp "$1" "$folder/image"
+    shift
     while [ $# -gt 0 ]; do
-        # shellcheck disable=SC2059
-        printf "\\x$(printf %02x "$2")" | dd of="$folder/image" bs=1 seek="$1" conv=notrunc status=none
+        byte "$2" | dd of="$folder/image" bs=1 seek="$1" conv=notrunc status=none
         shift 2
     done
     echo "$folder/image"
+}
+
+# numbers SIZE NUMBER ..: writes each number in so many bytes, the lowest first.
+numbers() {
+    local size=$1 number place
+    shift
+    for number in "$@"; do
+        for ((place = 0; place < size; place++)); do
+            byte $(((number >> (8 * place)) & 255))
+        done
+    done
+}
+
+# two_grids: writes an image of edition 2, 200 bytes: G's corrections, and heights 430,000 + 3 * row + 4 * column on a grid of 4 rows and
+# 3 columns, spacings 700 and 900, from 400 nd south and 100 nd east of G's corner.
+two_grids() {
+    local node
+    for node in 0 1 2 3 4 5 6 7 8; do
+        numbers 4 $((100 + 4 * (node / 3))) -50
+    done
+    for node in 0 1 2 3 4 5 6 7 8 9 10 11; do
+        numbers 4 $((430000 + 3 * (node / 3) + 4 * (node % 3)))
+    done
+    numbers 8 52000000000 5000000000
+    numbers 4 1000 1000 3 3
+    numbers 8 51999999600 5000000100
+    numbers 4 700 900 4 3
+    numbers 4 200 128 0 2
 }
 
 # padded SIZE: the name of a file of so many bytes that ends in G's.

@@ -1,8 +1,8 @@
 //! That the implementations answer alike: the two over whole numbers exactly, those over f64 nearly.
 
 use crate::proj::{self, Pipeline};
-use bench::grid::Grid;
-use bench::{fixes, library, plain, GridCheck, Implementation, Way};
+use bench::grid::{self, Grid};
+use bench::{fixes, library, plain, Edition, GridCheck, Implementation, Way};
 
 /// Fixes on, near and past bounds and limits that are compared beside those of the measurement.
 pub const OTHER_FIXES: usize = 10_000;
@@ -17,14 +17,8 @@ pub struct Distance {
 
 /// Compares every answer and the grid check of the library and the i128 implementation.
 pub fn require(grid: &Grid, fixes: &[i64]) {
-    let other = fixes::anywhere(&grid.geometry, OTHER_FIXES);
-    for way in [Way::Out, Way::Back] {
-        for list in [fixes, &other] {
-            let found = list_of(Implementation::Library, way, grid, list);
-            let expected = list_of(Implementation::Plain, way, grid, list);
-            assert!(found == expected, "the answers {way:?} differ");
-        }
-    }
+    require_answers(grid, fixes);
+    require_answers(grid, &others(grid));
     let checks: [GridCheck; 2] = [library::grid_check, plain::grid_check];
     let [found, expected] = checks.map(|grid_check| {
         let mut findings = [-1; 6];
@@ -32,6 +26,36 @@ pub fn require(grid: &Grid, fixes: &[i64]) {
     });
     assert_eq!(found, expected, "the grid checks differ");
     assert_eq!(found.0, 0, "the grid does not pass");
+}
+
+/// The same on a grid of edition 2 whose heights leave part of the corrections out, with fixes both
+/// ways that get number 15.
+pub fn require_off_heights() {
+    let grid = grid::narrow_heights();
+    require(&grid, &fixes::spread(&grid.heights, OTHER_FIXES));
+    for way in [Way::Out, Way::Back] {
+        let answers = list_of(Implementation::Plain, way, &grid, &others(&grid));
+        let seen = answers.chunks_exact(5).any(|answer| answer[4] == 15);
+        assert!(seen, "no fix {way:?} is off the heights");
+    }
+}
+
+/// Compares both ways' answers to a list.
+fn require_answers(grid: &Grid, fixes: &[i64]) {
+    for way in [Way::Out, Way::Back] {
+        let found = list_of(Implementation::Library, way, grid, fixes);
+        let expected = list_of(Implementation::Plain, way, grid, fixes);
+        assert!(found == expected, "the answers {way:?} differ");
+    }
+}
+
+/// Fixes on, near and past the corrections' bounds, and as many for the heights' own.
+fn others(grid: &Grid) -> Vec<i64> {
+    let mut others = fixes::anywhere(&grid.corrections, OTHER_FIXES);
+    if grid.edition == Edition::Second {
+        others.extend(fixes::anywhere(&grid.heights, OTHER_FIXES));
+    }
+    others
 }
 
 /// How far the answers of the f64 implementation and PROJ's lie from the library's. Every fix must

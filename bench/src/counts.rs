@@ -1,7 +1,8 @@
 //! Instructions of one conversion, counted by callgrind: of a list call with two fixes less those
 //! of the call with one.
 
-use crate::speeds::SIZES;
+use crate::plan::Plan;
+use bench::Edition;
 use std::env;
 use std::process::Command;
 
@@ -15,24 +16,32 @@ pub struct Counts {
     pub by_size: Vec<Three>,
     /// Back.
     pub back: Three,
+    /// Out at the count 3 and back, where edition 2's height cells are wide.
+    pub wide: Option<[Three; 2]>,
 }
 
-pub fn count() -> Counts {
-    eprintln!("instructions");
-    let by_count = (1..=5).map(|count| conversion(&format!("out count {count}")));
-    let by_size = SIZES.map(|(rows, columns)| conversion(&format!("out size {rows} {columns}")));
+pub fn count(plan: &Plan) -> Counts {
+    let edition = plan.edition.number();
+    eprintln!("edition {edition}: instructions");
+    let of = |case: String| conversion(plan.edition, &case);
+    let by_count = (1..=5).map(|count| of(format!("out count {count}")));
+    let by_size = plan.sizes.iter();
+    let by_size = by_size.map(|(rows, columns)| of(format!("out size {rows} {columns}")));
     Counts {
         by_count: by_count.collect(),
-        by_size: by_size.to_vec(),
-        back: conversion("back count 1"),
+        by_size: by_size.collect(),
+        back: of("back count 1".to_string()),
+        wide: (!plan.wide_sizes.is_empty())
+            .then(|| ["out wide 3", "back wide 1"].map(|case| of(case.to_string()))),
     }
 }
 
 /// Instructions of one conversion of a case, by each implementation.
-fn conversion(case: &str) -> Three {
+fn conversion(edition: Edition, case: &str) -> Three {
+    let edition = edition.number();
     ["library", "plain", "floating"].map(|implementation| {
-        let one = instructions(&format!("{implementation} {case} 1"));
-        let two = instructions(&format!("{implementation} {case} 2"));
+        let one = instructions(&format!("{edition} {implementation} {case} 1"));
+        let two = instructions(&format!("{edition} {implementation} {case} 2"));
         two - one
     })
 }

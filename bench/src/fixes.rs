@@ -22,11 +22,17 @@ pub fn spread(geometry: &Geometry, count: usize) -> Vec<i64> {
     fixes
 }
 
-/// So many fixes that a list call answers or refuses: on, near and past the bounds and limits.
+/// So many fixes that a list call answers or refuses: on, next to, within and past the bounds, and
+/// on and past the limits.
 pub fn anywhere(geometry: &Geometry, count: usize) -> Vec<i64> {
     let spots = |start: i64, length: i64, index: u64| {
         let spot = (mixed(index) % (length as u64 + 4_000_000)) as i64;
-        let places = [start, start + length, start - 2_000_000 + spot];
+        let next = (mixed(index + 2) % 3) as i64 - 1;
+        let places = [
+            start + next,
+            start + length + next,
+            start - 2_000_000 + spot,
+        ];
         places[(mixed(index + 1) % 3) as usize]
     };
     let heights = [0, 100_000_000, 100_000_001, -110_000_000, 110_000_001];

@@ -1,7 +1,32 @@
-//! Made-up grids as images of document 01.
+//! Grids as images of editions 1 and 2.
+
+mod made_up;
+#[cfg(test)]
+mod tests;
+
+pub use made_up::{narrow_heights, national, wide_heights, with_count, zeros};
+
+/// The editions of the image.
+#[derive(Clone, Copy, Debug, PartialEq, Eq)]
+pub enum Edition {
+    /// The three values together in a node.
+    First,
+    /// The heights on a grid of their own.
+    Second,
+}
+
+impl Edition {
+    /// As the image has it.
+    pub fn number(self) -> u32 {
+        match self {
+            Edition::First => 1,
+            Edition::Second => 2,
+        }
+    }
+}
 
 /// Bounds and spacings in nd, and the number of rows and columns.
-#[derive(Clone, Copy, Debug)]
+#[derive(Clone, Copy, Debug, PartialEq, Eq)]
 pub struct Geometry {
     pub south: i64,
     pub west: i64,
@@ -13,14 +38,13 @@ pub struct Geometry {
 
 /// A grid as its image.
 pub struct Grid {
-    pub geometry: Geometry,
+    pub edition: Edition,
+    /// The corrections' geometry.
+    pub corrections: Geometry,
+    /// The heights' geometry, in edition 1 the corrections'.
+    pub heights: Geometry,
     pub image: Vec<u8>,
 }
-
-/// Latitude correction, longitude correction, height.
-pub type Node = [i32; 3];
-
-const NODE_BYTES: usize = 12;
 
 impl Geometry {
     /// From the south bound to the north bound, in nd.
@@ -32,95 +56,138 @@ impl Geometry {
     pub fn width(&self) -> i64 {
         i64::from(self.longitude_spacing) * i64::from(self.columns - 1)
     }
+
+    /// The number of nodes.
+    pub fn nodes(&self) -> usize {
+        self.rows as usize * self.columns as usize
+    }
+
+    /// Each row and column, in the nodes' order.
+    pub fn places(&self) -> impl Iterator<Item = (u32, u32)> {
+        let columns = self.columns;
+        (0..self.rows).flat_map(move |row| (0..columns).map(move |column| (row, column)))
+    }
+
+    /// The nodes before the node of a row and a column.
+    fn index(&self, row: u32, column: u32) -> usize {
+        row as usize * self.columns as usize + column as usize
+    }
+
+    /// As a trailer has it.
+    fn bytes(&self) -> Vec<u8> {
+        let mut bytes = Vec::new();
+        for bound in [self.south, self.west] {
+            bytes.extend(bound.to_le_bytes());
+        }
+        let spacings = [self.latitude_spacing, self.longitude_spacing];
+        for number in spacings.into_iter().chain([self.rows, self.columns]) {
+            bytes.extend(number.to_le_bytes());
+        }
+        bytes
+    }
 }
 
 impl Grid {
-    /// The grid whose nodes are a function of row and column.
-    pub fn new(geometry: Geometry, node: impl Fn(u32, u32) -> Node) -> Grid {
-        let mut grid = Grid::of_zeros(geometry);
-        let columns = geometry.columns as usize;
-        let nodes = grid.image.chunks_exact_mut(NODE_BYTES);
-        for (index, bytes) in nodes.take(geometry.rows as usize * columns).enumerate() {
-            let values = node((index / columns) as u32, (index % columns) as u32);
-            for (place, value) in bytes.chunks_exact_mut(4).zip(values) {
-                place.copy_from_slice(&value.to_le_bytes());
-            }
+    /// The grid whose values are functions of row and column. Heights with a geometry of their own
+    /// make it one of edition 2.
+    pub fn new(
+        corrections: Geometry,
+        heights: Option<Geometry>,
+        correction: impl Fn(u32, u32) -> [i32; 2],
+        height: impl Fn(u32, u32) -> i32,
+    ) -> Grid {
+        let mut grid = Grid::of_zeros(corrections, heights);
+        for (row, column) in grid.corrections.places() {
+            let [latitude, longitude] = correction(row, column);
+            let at = grid.correction_at(row, column);
+            grid.put(at, latitude);
+            grid.put(at + 4, longitude);
+        }
+        for (row, column) in grid.heights.places() {
+            grid.put(grid.height_at(row, column), height(row, column));
         }
         grid
     }
 
     /// The grid whose values are all zero.
-    pub fn of_zeros(geometry: Geometry) -> Grid {
-        let nodes = geometry.rows as usize * geometry.columns as usize;
-        let back = NODE_BYTES * nodes + 40;
+    pub fn of_zeros(corrections: Geometry, heights: Option<Geometry>) -> Grid {
+        let edition = heights.map_or(Edition::First, |_| Edition::Second);
+        let (back, trailer) = match &heights {
+            None => trailer(&corrections),
+            Some(heights) => second_trailer(&corrections, heights),
+        };
         let mut image = vec![0; back];
-        let mut trailer = Vec::new();
-        trailer.extend(geometry.south.to_le_bytes());
-        trailer.extend(geometry.west.to_le_bytes());
-        for number in [geometry.latitude_spacing, geometry.longitude_spacing] {
-            trailer.extend(number.to_le_bytes());
+        image[back - trailer.len()..].copy_from_slice(&trailer);
+        let heights = heights.unwrap_or(corrections);
+        Grid {
+            edition,
+            corrections,
+            heights,
+            image,
         }
-        for number in [geometry.rows, geometry.columns, back as u32, 1] {
-            trailer.extend(number.to_le_bytes());
-        }
-        image[back - 40..].copy_from_slice(&trailer);
-        Grid { geometry, image }
     }
 
-    /// The values of the node of a row and a column.
-    pub fn node(&self, row: u32, column: u32) -> Node {
-        let index = row as usize * self.geometry.columns as usize + column as usize;
-        let bytes = &self.image[NODE_BYTES * index..][..NODE_BYTES];
-        std::array::from_fn(|k| {
-            i32::from_le_bytes(bytes[4 * k..][..4].try_into().expect("four bytes"))
-        })
+    /// The corrections of the node of a row and a column.
+    pub fn correction(&self, row: u32, column: u32) -> [i32; 2] {
+        let at = self.correction_at(row, column);
+        [at, at + 4].map(|at| self.number_at(at))
+    }
+
+    /// The height of the node of a row and a column.
+    pub fn height(&self, row: u32, column: u32) -> i32 {
+        self.number_at(self.height_at(row, column))
+    }
+
+    /// The number of nodes: those of both grids in edition 2.
+    pub fn nodes(&self) -> usize {
+        match self.edition {
+            Edition::First => self.corrections.nodes(),
+            Edition::Second => self.corrections.nodes() + self.heights.nodes(),
+        }
+    }
+
+    fn correction_at(&self, row: u32, column: u32) -> usize {
+        let node_bytes = match self.edition {
+            Edition::First => 12,
+            Edition::Second => 8,
+        };
+        node_bytes * self.corrections.index(row, column)
+    }
+
+    fn height_at(&self, row: u32, column: u32) -> usize {
+        let index = self.heights.index(row, column);
+        match self.edition {
+            Edition::First => 12 * index + 8,
+            Edition::Second => 8 * self.corrections.nodes() + 4 * index,
+        }
+    }
+
+    fn number_at(&self, at: usize) -> i32 {
+        i32::from_le_bytes(self.image[at..][..4].try_into().expect("four bytes"))
+    }
+
+    fn put(&mut self, at: usize, value: i32) {
+        self.image[at..][..4].copy_from_slice(&value.to_le_bytes());
     }
 }
 
-/// A grid that passes the grid check, with spacings of 0.0125 and 0.02 degrees around 52 degrees
-/// north and 5 degrees east. Its values are some 0.00095 and 0.0005 degrees and 43 m, with an
-/// uneven part that differs from node to node.
-pub fn national(rows: u32, columns: u32) -> Grid {
-    let mut geometry = Geometry {
-        south: 52_000_000_000,
-        west: 5_000_000_000,
-        latitude_spacing: 12_500_000,
-        longitude_spacing: 20_000_000,
-        rows,
-        columns,
-    };
-    geometry.south -= geometry.height() / 2;
-    geometry.west -= geometry.width() / 2;
-    Grid::new(geometry, |row, column| {
-        let uneven = |value| uneven(row, column, value);
-        [
-            950_000 + uneven(0),
-            -500_000 + uneven(1),
-            430_000 + uneven(2),
-        ]
-    })
+/// Edition 1's back and trailer.
+fn trailer(geometry: &Geometry) -> (usize, Vec<u8>) {
+    let back = 12 * geometry.nodes() + 40;
+    let mut bytes = geometry.bytes();
+    for number in [back as u32, 1] {
+        bytes.extend(number.to_le_bytes());
+    }
+    (back, bytes)
 }
 
-/// A number from 0 to 19,999 that is different for each node and value, without a pattern.
-fn uneven(row: u32, column: u32, value: u64) -> i32 {
-    let place = (u64::from(row) << 32 | u64::from(column)).wrapping_mul(3) + value;
-    (crate::fixes::mixed(place) % 20_000) as i32
-}
-
-/// A grid of 21 by 21 nodes on which the way out from the middle has the given count, 1 to 5. The
-/// latitude correction rises by a hundredth of the spacing from row to row, the most that the
-/// grid check lets pass.
-pub fn with_count(count: usize) -> Grid {
-    let middle_correction = [0, 50, 1_000, 100_000, 9_000_000][count - 1];
-    let geometry = Geometry {
-        south: 52_000_000_000,
-        west: 5_000_000_000,
-        latitude_spacing: 1_000_000,
-        longitude_spacing: 1_000_000,
-        rows: 21,
-        columns: 21,
-    };
-    Grid::new(geometry, |row, _| {
-        [middle_correction + 10_000 * (row as i32 - 10), 0, 430_000]
-    })
+/// Edition 2's back to the correction nodes, and its trailer.
+fn second_trailer(corrections: &Geometry, heights: &Geometry) -> (usize, Vec<u8>) {
+    let height_back = 4 * heights.nodes() + 80;
+    let back = 8 * corrections.nodes() + height_back;
+    let mut bytes = [corrections, heights].map(Geometry::bytes).concat();
+    for number in [back as u32, height_back as u32, 0, 2] {
+        bytes.extend(number.to_le_bytes());
+    }
+    (back, bytes)
 }

@@ -8,6 +8,7 @@ pub mod library;
 pub mod plain;
 
 pub use binding::Way;
+pub use grid::Edition;
 
 /// A grid check of an image, that writes its findings and gives its number.
 pub type GridCheck = fn(&[u8], &mut [i64; 6]) -> i64;

@@ -1,9 +1,13 @@
-//! Measures the library, the plain implementation and PROJ, and writes the table and the plot.
-//! `bench FOLDER` writes table.md and plot.svg there.
+//! Measures the library, the plain implementations and PROJ over images of both editions.
+//! `bench FOLDER` writes the table and the plot there, as table.md and plot.svg; `bench --quick`
+//! prints a short table of each edition.
 
 mod agreement;
 mod counts;
+mod goals;
+mod machine;
 mod measure;
+mod plan;
 mod plot;
 mod proj;
 mod proj_files;
@@ -11,16 +15,38 @@ mod speeds;
 mod table;
 mod temporary;
 
-use std::path::PathBuf;
+use bench::Edition;
+use plan::Plan;
+use std::path::Path;
 use std::{env, fs};
+use table::Measured;
 
 fn main() {
-    let folder = PathBuf::from(env::args().nth(1).expect("the folder for the results"));
-    let speeds = speeds::measure();
-    let counts = counts::count();
-    fs::create_dir_all(&folder).expect("the results' folder");
-    let table = table::write(&speeds, &counts);
+    let word = env::args().nth(1).expect("the results' folder or --quick");
+    if word == "--quick" {
+        for edition in [Edition::First, Edition::Second] {
+            print!("{}", table::edition(&measure(Plan::quick(edition))));
+        }
+    } else {
+        write_results(Path::new(&word));
+    }
+}
+
+fn write_results(folder: &Path) {
+    let editions = [Edition::First, Edition::Second].map(|it| measure(Plan::whole(it)));
+    fs::create_dir_all(folder).expect("the results' folder");
+    let table = table::write(&editions);
     print!("{table}");
     fs::write(folder.join("table.md"), table).expect("the table");
-    fs::write(folder.join("plot.svg"), plot::write(&speeds, &counts)).expect("the plot");
+    let [first, _] = &editions;
+    let plot = plot::write(&first.speeds, &first.counts);
+    fs::write(folder.join("plot.svg"), plot).expect("the plot");
+}
+
+fn measure(plan: Plan) -> Measured {
+    Measured {
+        speeds: speeds::measure(&plan),
+        counts: counts::count(&plan),
+        plan,
+    }
 }

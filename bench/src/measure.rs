@@ -3,20 +3,17 @@
 
 use std::ffi::{c_int, c_long};
 
-/// Measurements of one piece of work.
-pub const REPEATS: usize = 51;
-
 /// How long one measurement lasts at least, in seconds; short work is done many times in it.
 const SPAN: f64 = 0.002;
 
 /// A piece of work that can be done again and again.
 pub type Work<'a> = Box<dyn FnMut() + 'a>;
 
-/// The median seconds that each piece of work takes once.
-pub fn median_seconds(works: &mut [Work]) -> Vec<f64> {
+/// The median seconds that each piece of work takes once, of so many measurements of each.
+pub fn median_seconds(works: &mut [Work], repeats: usize) -> Vec<f64> {
     let times: Vec<u32> = works.iter_mut().map(times_in_span).collect();
-    let mut measured = vec![Vec::with_capacity(REPEATS); works.len()];
-    for _ in 0..REPEATS {
+    let mut measured = vec![Vec::with_capacity(repeats); works.len()];
+    for _ in 0..repeats {
         for (index, work) in works.iter_mut().enumerate() {
             // Once unmeasured: the work before it has left the caches to itself.
             work();

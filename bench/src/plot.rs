@@ -1,7 +1,8 @@
-//! The plot, in SVG: one panel for each table, with a scale of powers of ten.
+//! The plot, in SVG: one panel for each of an edition's tables, with a scale of powers of ten.
 
 use crate::counts::{Counts, Three};
-use crate::speeds::{Conversions, Speeds, LENGTHS, SIZES};
+use crate::plan::{LENGTHS, SIZES};
+use crate::speeds::{Conversions, Speeds};
 use crate::table::size_words;
 use std::fmt::Write;
 
@@ -34,7 +35,7 @@ pub fn write(speeds: &Speeds, counts: &Counts) -> String {
     let mut text = format!(
         "<svg xmlns=\"http://www.w3.org/2000/svg\" viewBox=\"0 0 {width} {height}\" \
          font-family=\"sans-serif\" font-size=\"11\">\n\
-         <title>Speed of the conversion</title>\n\
+         <title>Speed of the conversion, edition 1</title>\n\
          <rect width=\"{width}\" height=\"{height}\" fill=\"white\"/>\n"
     );
     for (index, panel) in panels.iter().enumerate() {

@@ -1,6 +1,6 @@
 //! A grid as the files that PROJ reads: corrections as .gsb (NTv2), heights as .gtx.
 
-use bench::grid::Grid;
+use bench::grid::{Geometry, Grid};
 use std::fs::File;
 use std::io::{BufWriter, Result, Write};
 use std::path::Path;
@@ -13,11 +13,11 @@ const SECONDS: f64 = 3.6e-6;
 pub fn write_gsb(grid: &Grid, path: &Path) -> Result<()> {
     let mut file = BufWriter::new(File::create(path)?);
     write_overview(&mut file)?;
-    write_extent(&mut file, grid)?;
-    let geometry = &grid.geometry;
+    write_extent(&mut file, &grid.corrections)?;
+    let geometry = &grid.corrections;
     for row in 0..geometry.rows {
         for column in (0..geometry.columns).rev() {
-            let [latitude, longitude, _] = grid.node(row, column);
+            let [latitude, longitude] = grid.correction(row, column);
             let north = (f64::from(latitude) * SECONDS) as f32;
             let west = (f64::from(-longitude) * SECONDS) as f32;
             for value in [north, west, 0.0, 0.0] {
@@ -43,8 +43,7 @@ fn write_overview(file: &mut impl Write) -> Result<()> {
     real(file, "MINOR_T", 6_356_752.314)
 }
 
-fn write_extent(file: &mut impl Write, grid: &Grid) -> Result<()> {
-    let geometry = &grid.geometry;
+fn write_extent(file: &mut impl Write, geometry: &Geometry) -> Result<()> {
     let north = geometry.south + geometry.height();
     let east = geometry.west + geometry.width();
     text(file, "SUB_NAME", "BENCH")?;
@@ -82,10 +81,11 @@ fn whole(file: &mut impl Write, name: &str, value: u32) -> Result<()> {
     file.write_all(&u64::from(value).to_le_bytes())
 }
 
-/// The heights, metres in 32-bit floating point, the most significant byte first.
+/// The heights with their own geometry, metres in 32-bit floating point, the most significant byte
+/// first.
 pub fn write_gtx(grid: &Grid, path: &Path) -> Result<()> {
     let mut file = BufWriter::new(File::create(path)?);
-    let geometry = &grid.geometry;
+    let geometry = &grid.heights;
     let spacings = [geometry.latitude_spacing, geometry.longitude_spacing];
     for bound in [geometry.south, geometry.west] {
         file.write_all(&(bound as f64 / 1e9).to_be_bytes())?;
@@ -96,11 +96,9 @@ pub fn write_gtx(grid: &Grid, path: &Path) -> Result<()> {
     for count in [geometry.rows, geometry.columns] {
         file.write_all(&count.to_be_bytes())?;
     }
-    for row in 0..geometry.rows {
-        for column in 0..geometry.columns {
-            let metres = (f64::from(grid.node(row, column)[2]) / 1e4) as f32;
-            file.write_all(&metres.to_be_bytes())?;
-        }
+    for (row, column) in geometry.places() {
+        let metres = (f64::from(grid.height(row, column)) / 1e4) as f32;
+        file.write_all(&metres.to_be_bytes())?;
     }
     file.flush()
 }

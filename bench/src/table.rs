@@ -2,69 +2,93 @@
 
 use crate::agreement::OTHER_FIXES;
 use crate::counts::{Counts, Three};
-use crate::measure::REPEATS;
-use crate::proj;
-use crate::speeds::{
-    Conversions, Four, Speeds, LENGTHS, LENGTH_OF_DISTANCE, LENGTH_OF_SIZES, SIZES, SIZE_OF_LENGTHS,
-};
+use crate::goals;
+use crate::machine;
+use crate::plan::{Plan, Size, LENGTH_OF_DISTANCE, LENGTH_OF_SIZES, SIZE_OF_LENGTHS};
+use crate::speeds::{Conversions, Four, Speeds};
+use bench::grid::{Geometry, Grid};
+use bench::Edition;
 use std::fmt::Write;
-use std::fs;
-use std::process::Command;
-use std::thread;
 
 const FOUR_HEAD: &str =
     "library | i128 | f64 | PROJ | library / i128 | library / f64 | library / PROJ";
 
-pub fn write(speeds: &Speeds, counts: &Counts) -> String {
+/// All that was measured of an edition.
+pub struct Measured {
+    pub plan: Plan,
+    pub speeds: Speeds,
+    pub counts: Counts,
+}
+
+pub fn write(editions: &[Measured; 2]) -> String {
     let mut text = String::from("# Speed of the conversion\n\n");
-    text += &machine();
+    text += &machine::words();
     let _ = writeln!(
         text,
-        "\nMedians of {REPEATS} measurements, taken in turn, of the thread's processor time. The \
-         load of the machine was {} after them. The counts of instructions are exact.",
-        load()
+        "\nMedians of {} measurements, taken in turn, of the thread's processor time. The load of \
+         the machine was {} after them. The counts of instructions are exact.",
+        editions[0].plan.repeats,
+        machine::load()
     );
-    let sizes = SIZES.map(size_words);
-    let lengths = LENGTHS.map(|length| length.to_string());
+    for measured in editions {
+        text += &edition(measured);
+    }
+    text += &agreement(editions);
+    text += &goals::write(editions);
+    text
+}
+
+/// The tables of an edition.
+pub fn edition(measured: &Measured) -> String {
+    let Measured {
+        plan,
+        speeds,
+        counts,
+    } = measured;
     let (length, size) = (grouped(LENGTH_OF_SIZES as f64), size_words(SIZE_OF_LENGTHS));
-    let head = "\n## Conversions per second, by";
-    let _ = writeln!(text, "{head} grid size (lists of {length} fixes)");
-    text += &conversions("grid", &sizes, &speeds.by_size);
-    let _ = writeln!(text, "{head} list length (grid of {size})");
-    text += &conversions("fixes", &lengths, &speeds.by_length);
-    text += &checks(&sizes, &speeds.checks);
-    text += &instructions(&sizes, counts);
-    text += &agreement(speeds);
-    text += &goals(speeds, counts);
+    let head = format!("\n## Edition {}:", plan.edition.number());
+    let mut text = String::new();
+    let of_size = format!("by grid size (lists of {length} fixes)");
+    let _ = writeln!(text, "{head} conversions per second, {of_size}");
+    text += &conversions("grid", &speeds.sizes, &speeds.by_size);
+    if !plan.lengths.is_empty() {
+        let lengths: Vec<String> = plan.lengths.iter().map(usize::to_string).collect();
+        let of_length = format!("by list length (grid of {size})");
+        let _ = writeln!(text, "{head} conversions per second, {of_length}");
+        text += &conversions("fixes", &lengths, &speeds.by_length);
+    }
+    if !speeds.wide.is_empty() {
+        let of_cells = "heights in cells wider than 2^48 nd²";
+        let _ = writeln!(text, "{head} conversions per second, {of_cells}");
+        text += &conversions("grid", &speeds.wide_sizes, &speeds.wide);
+    }
+    let nodes = match plan.edition {
+        Edition::First => "nodes",
+        Edition::Second => "nodes of both grids",
+    };
+    let _ = writeln!(text, "{head} grid check, {nodes} per second\n");
+    text += &checks(&speeds.sizes, &speeds.checks);
+    let _ = writeln!(text, "{head} instructions of one conversion (callgrind)\n");
+    text += &instructions(&speeds.sizes, counts);
     text
 }
 
 /// Rows and columns.
-pub fn size_words((rows, columns): (u32, u32)) -> String {
+pub fn size_words((rows, columns): Size) -> String {
     format!("{rows} × {columns}")
 }
 
-/// The machine and the programs.
-fn machine() -> String {
-    let cpu = fs::read_to_string("/proc/cpuinfo").unwrap_or_default();
-    let model = cpu
-        .lines()
-        .find_map(|line| line.strip_prefix("model name\t: "));
-    let output = Command::new("rustc").arg("--version").output();
-    let rustc = output.map(|it| String::from_utf8_lossy(&it.stdout).trim().to_string());
-    let cores = thread::available_parallelism().map_or(0, |it| it.get());
-    format!(
-        "Machine: {cores} cores, {}; {}; PROJ {}.\n",
-        model.unwrap_or("unknown"),
-        rustc.unwrap_or_default(),
-        proj::release()
-    )
-}
-
-/// The number of running programs, over the last 5 minutes.
-fn load() -> String {
-    let loads = fs::read_to_string("/proc/loadavg").unwrap_or_default();
-    loads.split(' ').nth(1).unwrap_or("unknown").to_string()
+/// Rows and columns of the corrections, and of the heights where these have their own.
+pub fn grid_words(grid: &Grid) -> String {
+    let words = |it: &Geometry| size_words((it.rows, it.columns));
+    match grid.edition {
+        Edition::First => words(&grid.corrections),
+        Edition::Second => format!(
+            "{}, heights {}",
+            words(&grid.corrections),
+            words(&grid.heights)
+        ),
+    }
 }
 
 fn conversions(first: &str, names: &[String], rows: &[Conversions]) -> String {
@@ -98,7 +122,7 @@ fn four(speeds: Four) -> String {
 }
 
 fn checks(names: &[String], rows: &[[f64; 2]]) -> String {
-    let mut text = String::from("\n## Grid check: nodes per second\n\n");
+    let mut text = String::new();
     text += "grid | library | i128 | library / i128 |\n---|---:|---:|---:|\n";
     for (name, [library, plain]) in names.iter().zip(rows) {
         let (first, second) = (grouped(*library), grouped(*plain));
@@ -112,7 +136,7 @@ fn checks(names: &[String], rows: &[[f64; 2]]) -> String {
 }
 
 fn instructions(sizes: &[String], counts: &Counts) -> String {
-    let mut text = String::from("\n## Instructions of one conversion (callgrind)\n\n");
+    let mut text = String::new();
     text += "case | library | i128 | f64 | library / i128 | library / f64 |\n";
     text += "---|---:|---:|---:|---:|---:|\n";
     let by_count = (1..).map(|count: usize| format!("out, count {count}"));
@@ -122,7 +146,10 @@ fn instructions(sizes: &[String], counts: &Counts) -> String {
     let named = by_count
         .zip(&counts.by_count)
         .chain(by_size.zip(&counts.by_size));
-    for (name, row) in named.chain([("back".to_string(), &counts.back)]) {
+    let wide = ["out, count 3, wide height cells", "back, wide height cells"].map(String::from);
+    let wide = wide.into_iter().zip(counts.wide.iter().flatten());
+    let back = [("back".to_string(), &counts.back)];
+    for (name, row) in named.chain(back).chain(wide) {
         let [library, plain, floating]: Three = *row;
         let [to_plain, to_floating] = [plain, floating].map(|it| library as f64 / it as f64);
         let _ = writeln!(
@@ -133,67 +160,30 @@ fn instructions(sizes: &[String], counts: &Counts) -> String {
     text
 }
 
-fn agreement(speeds: &Speeds) -> String {
+fn agreement(editions: &[Measured; 2]) -> String {
     let [others, taken] = [OTHER_FIXES, LENGTH_OF_DISTANCE].map(|count| grouped(count as f64));
     let size = size_words(SIZE_OF_LENGTHS);
-    let [floating, proj] = speeds.distances;
-    format!(
+    let mut text = format!(
         "\n## Agreement\n\nThe library and the i128 implementation gave the same answers to all \
-         fixes above, and to {others} more on, near and past each grid's bounds. On the grid of \
-         {size} the answers to {taken} fixes lie within {:.0} nd and {:.0} units of the library's \
-         for the f64 implementation, and within {:.2} nd and {:.2} units for PROJ.\n",
-        floating.angle, floating.height, proj.angle, proj.height
-    )
-}
-
-fn goals(speeds: &Speeds, counts: &Counts) -> String {
-    let all = || speeds.by_size.iter().chain(&speeds.by_length);
-    let ratios = |other: usize| {
-        let of = move |it: &Conversions| [it.out[0] / it.out[other], it.back[0] / it.back[other]];
-        all().flat_map(of).fold(f64::INFINITY, f64::min)
-    };
-    let checks = speeds
-        .checks
-        .iter()
-        .map(|it| it[0] / it[1])
-        .fold(f64::INFINITY, f64::min);
-    let instructions = || counts.by_size.iter().map(|it| it[0] as f64);
-    let least = instructions().fold(f64::INFINITY, f64::min);
-    let growth = instructions().fold(0.0, f64::max) / least;
-    let to_floating = |four: Four| four[0] / four[2];
-    let same_size = SIZES.iter().position(|it| *it == SIZE_OF_LENGTHS);
-    let same_size = &speeds.by_size[same_size.expect("that size is among the sizes")];
-    let [out_to_floating, back_to_floating] = [("out", 0.9), ("back", 0.6)].map(|(way, goal)| {
-        format!(
-            "{way}, {}: library / f64 is at least {goal}",
-            size_words(SIZE_OF_LENGTHS)
-        )
-    });
-    let told = |met: bool| if met { "met" } else { "missed" };
-    let mut text = String::from("\n## Goals\n\ngoal | measured | |\n---|---:|---|\n");
-    for (goal, ratio, wanted) in [
-        (
-            "conversions: least library / i128 is at least 1",
-            ratios(1),
-            1.0,
-        ),
-        (
-            "grid check: least library / i128 is at least 1",
-            checks,
-            1.0,
-        ),
-        (
-            "conversions: least library / PROJ is at least 3",
-            ratios(3),
-            3.0,
-        ),
-        (&out_to_floating, to_floating(same_size.out), 0.9),
-        (&back_to_floating, to_floating(same_size.back), 0.6),
-    ] {
-        let _ = writeln!(text, "{goal} | {ratio:.2} | {} |", told(ratio >= wanted));
+         fixes above, and to {others} more on, near and past the bounds of each grid of \
+         corrections and, in edition 2, of heights; also over an image of edition 2 whose heights \
+         leave out part of the corrections, where fixes get number 15. On the grids of {size} the \
+         answers to {taken} fixes lie at most so far from the library's:\n\n"
+    );
+    text += "edition | f64, nd | f64, units | PROJ, nd | PROJ, units |\n";
+    text += "---|---:|---:|---:|---:|\n";
+    for Measured { plan, speeds, .. } in editions {
+        let [floating, proj] = speeds.distances;
+        let _ = writeln!(
+            text,
+            "{} | {:.0} | {:.0} | {:.2} | {:.2} |",
+            plan.edition.number(),
+            floating.angle,
+            floating.height,
+            proj.angle,
+            proj.height
+        );
     }
-    let same = "instructions of a fix: most / least over the grid sizes is below 1.01";
-    let _ = writeln!(text, "{same} | {growth:.3} | {} |", told(growth < 1.01));
     text
 }
 

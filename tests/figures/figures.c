@@ -1,4 +1,5 @@
-/* The figures of document 01, starred and unstarred, each by name, put to the built library. Prints `ok NAME` or `FAILED NAME`. */
+/* The figures of document 01, starred and unstarred, each by name, put to the built library; and figures of our own for images of
+ * edition 2, which document 02 has none for. Prints `ok NAME` or `FAILED NAME`. */
 #include <inttypes.h>
 #include <stdio.h>
 #include <string.h>
@@ -7,7 +8,14 @@
 
 #define SOUTH INT64_C(52000000000)
 #define WEST INT64_C(5000000000)
-#define SIZE (9 * MARKER_NODE_LENGTH + MARKER_TRAILER_LENGTH)
+
+/* G has 148 bytes, the image of edition 2 below 200. */
+enum { ONE_GRID = 9 * 12 + 40, TWO_GRIDS = 9 * 8 + 12 * 4 + 80 };
+
+struct image {
+    uint8_t bytes[TWO_GRIDS];
+    size_t length;
+};
 
 static int failures = 0;
 
@@ -24,9 +32,16 @@ static uint8_t *put(uint8_t *at, int64_t value, int bytes) {
     return at;
 }
 
+/* The geometry of a grid, by the offsets of its south-west corner. */
+static uint8_t *put_geometry(uint8_t *at, const int64_t corner[2], const int64_t spacings[2], const int64_t lines[2]) {
+    at = put(put(at, SOUTH + corner[0], 8), WEST + corner[1], 8);
+    at = put(put(at, spacings[0], 4), spacings[1], 4);
+    return put(put(at, lines[0], 4), lines[1], 4);
+}
+
 /* Grid G with other corrections: latitude by row, longitude by a first value and a step for each column. */
-static void grid(uint8_t image[SIZE], const int64_t latitude[3], int64_t longitude, int64_t step) {
-    uint8_t *at = image;
+static void grid(struct image *image, const int64_t latitude[3], int64_t longitude, int64_t step) {
+    uint8_t *at = image->bytes;
     for (int row = 0; row < 3; row++) {
         for (int column = 0; column < 3; column++) {
             at = put(at, latitude[row], 4);
@@ -34,42 +49,59 @@ static void grid(uint8_t image[SIZE], const int64_t latitude[3], int64_t longitu
             at = put(at, 430000 + 5 * column, 4);
         }
     }
-    at = put(put(at, SOUTH, 8), WEST, 8);
-    at = put(put(put(put(at, 1000, 4), 1000, 4), 3, 4), 3, 4);
-    put(put(at, SIZE, 4), 1, 4);
+    at = put_geometry(at, (int64_t[]){0, 0}, (int64_t[]){1000, 1000}, (int64_t[]){3, 3});
+    put(put(at, ONE_GRID, 4), 1, 4);
+    image->length = ONE_GRID;
+}
+
+/* Edition 2: G's corrections, and heights on a grid of 4 rows and 3 columns from (-400, 100) to (1700, 1900) with a step for each row and
+ * each column. */
+static void two_grids(struct image *image, int64_t row_step, int64_t column_step) {
+    uint8_t *at = image->bytes;
+    for (int node = 0; node < 9; node++) {
+        at = put(put(at, 100 + 4 * (node / 3), 4), -50, 4);
+    }
+    for (int node = 0; node < 12; node++) {
+        at = put(at, 430000 + row_step * (node / 3) + column_step * (node % 3), 4);
+    }
+    at = put_geometry(at, (int64_t[]){0, 0}, (int64_t[]){1000, 1000}, (int64_t[]){3, 3});
+    at = put_geometry(at, (int64_t[]){-400, 100}, (int64_t[]){700, 900}, (int64_t[]){4, 3});
+    put(put(put(put(at, TWO_GRIDS, 4), 12 * 4 + 80, 4), 0, 4), 2, 4);
+    image->length = TWO_GRIDS;
 }
 
 typedef int64_t way(const uint8_t *, size_t, const int64_t *, size_t, int64_t *, size_t);
 
 /* One fix by its offsets from the south-west corner: is this its answer? */
-static bool answers(way *convert, const uint8_t *image, const int64_t fix[MARKER_FIX_LENGTH], const int64_t wanted[MARKER_ANSWER_LENGTH]) {
+static bool answers(way *convert, const struct image *image, const int64_t fix[MARKER_FIX_LENGTH],
+                    const int64_t wanted[MARKER_ANSWER_LENGTH]) {
     int64_t given[MARKER_FIX_LENGTH] = {SOUTH + fix[MARKER_LATITUDE], WEST + fix[MARKER_LONGITUDE], fix[MARKER_HEIGHT]};
     int64_t answer[MARKER_ANSWER_LENGTH];
-    return convert(image, SIZE, given, MARKER_FIX_LENGTH, answer, MARKER_ANSWER_LENGTH) == MARKER_DONE &&
+    return convert(image->bytes, image->length, given, MARKER_FIX_LENGTH, answer, MARKER_ANSWER_LENGTH) == MARKER_DONE &&
            memcmp(answer, wanted, sizeof answer) == 0;
 }
 
 /* The same for these values, the point by its offsets too. */
-static bool gives(way *convert, const uint8_t *image, const int64_t fix[MARKER_FIX_LENGTH], const int64_t values[MARKER_NUMBER]) {
+static bool gives(way *convert, const struct image *image, const int64_t fix[MARKER_FIX_LENGTH], const int64_t values[MARKER_NUMBER]) {
     return answers(convert, image, fix,
                    (int64_t[]){SOUTH + values[MARKER_LATITUDE], WEST + values[MARKER_LONGITUDE], values[MARKER_HEIGHT],
                                values[MARKER_COUNT], MARKER_DONE});
 }
 
-static bool refuses(way *convert, const uint8_t *image, const int64_t fix[MARKER_FIX_LENGTH], int64_t number) {
+static bool refuses(way *convert, const struct image *image, const int64_t fix[MARKER_FIX_LENGTH], int64_t number) {
     return answers(convert, image, fix, (int64_t[]){0, 0, 0, 0, number});
 }
 
-static bool passes(const uint8_t *image, const int64_t wanted[MARKER_FINDINGS_LENGTH]) {
+static bool passes(const struct image *image, const int64_t wanted[MARKER_FINDINGS_LENGTH]) {
     int64_t findings[MARKER_FINDINGS_LENGTH];
-    return marker_grid_check(image, SIZE, findings) == MARKER_DONE && memcmp(findings, wanted, sizeof findings) == 0;
+    return marker_grid_check(image->bytes, image->length, findings) == MARKER_DONE && memcmp(findings, wanted, sizeof findings) == 0;
 }
 
-static bool check_refuses(const uint8_t *image, int64_t number) {
+static bool check_refuses(const struct image *image, int64_t number) {
     const int64_t before[MARKER_FINDINGS_LENGTH] = {1, 2, 3, 4, 5, 6};
     int64_t findings[MARKER_FINDINGS_LENGTH];
     memcpy(findings, before, sizeof findings);
-    return marker_grid_check(image, SIZE, findings) == number && memcmp(findings, before, sizeof findings) == 0;
+    return marker_grid_check(image->bytes, image->length, findings) == number && memcmp(findings, before, sizeof findings) == 0;
 }
 
 static bool writes(int64_t nd, uint64_t degrees, uint64_t minutes, uint64_t fraction, char letter) {
@@ -79,35 +111,72 @@ static bool writes(int64_t nd, uint64_t degrees, uint64_t minutes, uint64_t frac
 }
 
 static void figures_of_g(void) {
-    uint8_t g[SIZE];
-    grid(g, (int64_t[]){100, 104, 108}, -50, 0);
-    tell("back (500, 500)", gives(marker_list_back, g, (int64_t[]){500, 500, 10000}, (int64_t[]){602, 450, 440003, 1}));
-    tell("out (602, 450)", gives(marker_list_out, g, (int64_t[]){602, 450, 440003}, (int64_t[]){500, 500, 10000, 2}));
-    tell("back (2000, 2000)", gives(marker_list_back, g, (int64_t[]){2000, 2000, 0}, (int64_t[]){2108, 1950, 430010, 1}));
-    tell("back (2001, 2000) gives 8", refuses(marker_list_back, g, (int64_t[]){2001, 2000, 0}, 8));
-    tell("back (125, 0): 100.5 gives 101", gives(marker_list_back, g, (int64_t[]){125, 0, 0}, (int64_t[]){226, -50, 430000, 1}));
-    tell("out (50, 500) gives 10", refuses(marker_list_out, g, (int64_t[]){50, 500, 0}, 10));
-    tell("out (2050, 500) gives 8", refuses(marker_list_out, g, (int64_t[]){2050, 500, 0}, 8));
-    tell("G passes with 4 0 0 0 0 5", passes(g, (int64_t[]){4, 0, 0, 0, 0, 5}));
+    struct image g;
+    grid(&g, (int64_t[]){100, 104, 108}, -50, 0);
+    tell("back (500, 500)", gives(marker_list_back, &g, (int64_t[]){500, 500, 10000}, (int64_t[]){602, 450, 440003, 1}));
+    tell("out (602, 450)", gives(marker_list_out, &g, (int64_t[]){602, 450, 440003}, (int64_t[]){500, 500, 10000, 2}));
+    tell("back (2000, 2000)", gives(marker_list_back, &g, (int64_t[]){2000, 2000, 0}, (int64_t[]){2108, 1950, 430010, 1}));
+    tell("back (2001, 2000) gives 8", refuses(marker_list_back, &g, (int64_t[]){2001, 2000, 0}, 8));
+    tell("back (125, 0): 100.5 gives 101", gives(marker_list_back, &g, (int64_t[]){125, 0, 0}, (int64_t[]){226, -50, 430000, 1}));
+    tell("out (50, 500) gives 10", refuses(marker_list_out, &g, (int64_t[]){50, 500, 0}, 10));
+    tell("out (2050, 500) gives 8", refuses(marker_list_out, &g, (int64_t[]){2050, 500, 0}, 8));
+    tell("G passes with 4 0 0 0 0 5", passes(&g, (int64_t[]){4, 0, 0, 0, 0, 5}));
 }
 
 static void figures_of_variants(void) {
-    uint8_t image[SIZE];
-    grid(image, (int64_t[]){100, 104, 108}, -100, -1);
-    tell("(0, 500) gives -100", gives(marker_list_back, image, (int64_t[]){0, 500, 0}, (int64_t[]){100, 400, 430003, 1}));
-    tell("(0, 700) gives -101", gives(marker_list_back, image, (int64_t[]){0, 700, 0}, (int64_t[]){100, 599, 430004, 1}));
-    grid(image, (int64_t[]){0, 1000, 2000}, 0, 0);
-    tell("0, 1000, 2000: out (1500, 500) gives 11", refuses(marker_list_out, image, (int64_t[]){1500, 500, 0}, 11));
-    tell("0, 1000, 2000: the check gives 12", check_refuses(image, 12));
-    grid(image, (int64_t[]){100, 110, 120}, -50, 0);
+    struct image image;
+    grid(&image, (int64_t[]){100, 104, 108}, -100, -1);
+    tell("(0, 500) gives -100", gives(marker_list_back, &image, (int64_t[]){0, 500, 0}, (int64_t[]){100, 400, 430003, 1}));
+    tell("(0, 700) gives -101", gives(marker_list_back, &image, (int64_t[]){0, 700, 0}, (int64_t[]){100, 599, 430004, 1}));
+    grid(&image, (int64_t[]){0, 1000, 2000}, 0, 0);
+    tell("0, 1000, 2000: out (1500, 500) gives 11", refuses(marker_list_out, &image, (int64_t[]){1500, 500, 0}, 11));
+    tell("0, 1000, 2000: the check gives 12", check_refuses(&image, 12));
+    grid(&image, (int64_t[]){100, 110, 120}, -50, 0);
     tell("100, 110, 120: out (602, 450) gives 497",
-         gives(marker_list_out, image, (int64_t[]){602, 450, 440003}, (int64_t[]){497, 500, 10000, 2}));
-    tell("100, 110, 120 pass", passes(image, (int64_t[]){10, 0, 0, 0, 0, 5}));
-    grid(image, (int64_t[]){100, 111, 122}, -50, 0);
-    tell("100, 111, 122 give 12", check_refuses(image, 12));
-    grid(image, (int64_t[]){100, 104, 108}, -50, 0);
-    put(image + 48, 10000001, 4);
-    tell("one node with 10,000,001 gives 9", check_refuses(image, 9));
+         gives(marker_list_out, &image, (int64_t[]){602, 450, 440003}, (int64_t[]){497, 500, 10000, 2}));
+    tell("100, 110, 120 pass", passes(&image, (int64_t[]){10, 0, 0, 0, 0, 5}));
+    grid(&image, (int64_t[]){100, 111, 122}, -50, 0);
+    tell("100, 111, 122 give 12", check_refuses(&image, 12));
+    grid(&image, (int64_t[]){100, 104, 108}, -50, 0);
+    put(image.bytes + 48, 10000001, 4);
+    tell("one node with 10,000,001 gives 9", check_refuses(&image, 9));
+}
+
+/* Expected values as the independent reference computes them (tests/reference/tests/edition_2/figures.rs). */
+static void figures_of_edition_2(void) {
+    struct image image;
+    two_grids(&image, 3, 4);
+    tell("edition 2: back (500, 500)", gives(marker_list_back, &image, (int64_t[]){500, 500, 10000}, (int64_t[]){602, 450, 440006, 1}));
+    tell("edition 2: out (602, 450)", gives(marker_list_out, &image, (int64_t[]){602, 450, 440006}, (int64_t[]){500, 500, 10000, 2}));
+    tell("edition 2: back (1700, 1900), the height grid's corner",
+         gives(marker_list_back, &image, (int64_t[]){1700, 1900, 0}, (int64_t[]){1807, 1850, 430017, 1}));
+    tell("edition 2: back (1701, 1900) gives 15", refuses(marker_list_back, &image, (int64_t[]){1701, 1900, 0}, 15));
+    tell("edition 2: back (500, 99) gives 15", refuses(marker_list_back, &image, (int64_t[]){500, 99, 0}, 15));
+    tell("edition 2: back (-1, 100) gives 8", refuses(marker_list_back, &image, (int64_t[]){-1, 100, 0}, 8));
+    tell("edition 2: out (1807, 1850) ends on that corner",
+         gives(marker_list_out, &image, (int64_t[]){1807, 1850, 430017}, (int64_t[]){1700, 1900, 0, 2}));
+    tell("edition 2: out (1808, 1850) gives 15", refuses(marker_list_out, &image, (int64_t[]){1808, 1850, 430017}, 15));
+    tell("edition 2: passes with 4 0 0 0 3 4", passes(&image, (int64_t[]){4, 0, 0, 0, 3, 4}));
+    two_grids(&image, 4, 4);
+    tell("edition 2: height steps 4 and 4 give 12", check_refuses(&image, 12));
+}
+
+/* Edition 2's trailer and nodes broken, one at a time. */
+static void refusals_of_edition_2(void) {
+    struct image image;
+    two_grids(&image, 3, 4);
+    put(image.bytes + TWO_GRIDS - 8, 1, 4);
+    tell("edition 2: kind 1 gives 2", check_refuses(&image, 2));
+    two_grids(&image, 3, 4);
+    memmove(image.bytes, image.bytes + TWO_GRIDS - 79, 79);
+    image.length = 79;
+    tell("edition 2: 79 bytes give 1", check_refuses(&image, 1));
+    two_grids(&image, 3, 4);
+    put(image.bytes + TWO_GRIDS - 24, 1, 4);
+    tell("edition 2: one row of heights gives 3", check_refuses(&image, 3));
+    two_grids(&image, 3, 4);
+    put(image.bytes + TWO_GRIDS - 84, 1000001, 4);
+    tell("edition 2: one height of 1,000,001 gives 9", check_refuses(&image, 9));
 }
 
 static void figures_of_notation(void) {
@@ -124,5 +193,7 @@ int main(void) {
     figures_of_g();
     figures_of_variants();
     figures_of_notation();
+    figures_of_edition_2();
+    refusals_of_edition_2();
     return failures == 0 ? 0 : 1;
 }

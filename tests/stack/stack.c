@@ -1,5 +1,6 @@
 /* Measures how much stack each call of the built library writes: not more than the figure in marker.h. Prints `ok NAME` or
- * `FAILED NAME` for each call. Grid G's 148 bytes are read from standard input.
+ * `FAILED NAME` for each call. An image of a few nodes around grid G's is read from standard input, of edition 1 or 2; the notation is
+ * measured with edition 1.
  *
  * A call is made on a stack of its own that is filled with one byte; what has another byte afterwards was written. */
 #include <inttypes.h>
@@ -8,14 +9,15 @@
 
 #include "marker.h"
 
-#define SIZE (9 * MARKER_NODE_LENGTH + MARKER_TRAILER_LENGTH)
+#define MOST_BYTES 256
 #define STACK_SIZE 65536
 #define FILLING 0xA5
 
 /* A function of the library, whatever it takes. */
 typedef void function(void);
 
-static uint8_t image[SIZE];
+static uint8_t image[MOST_BYTES];
+static size_t size; /* of the image */
 static _Alignas(16) uint8_t stack[STACK_SIZE];
 static int failures = 0;
 
@@ -36,7 +38,7 @@ static void call(function *called, const uint64_t given[6]) {
 
 static void check(function *called) {
     int64_t findings[MARKER_FINDINGS_LENGTH];
-    call(called, (uint64_t[6]){(uintptr_t)image, SIZE, (uintptr_t)findings});
+    call(called, (uint64_t[6]){(uintptr_t)image, size, (uintptr_t)findings});
 }
 
 /* A list of fixes in and around grid G, one in ten past the limit of heights. */
@@ -49,15 +51,15 @@ static void list(function *called) {
         fix[MARKER_LONGITUDE] = INT64_C(5000000000) + i % SIDE * 150 - 50;
         fix[MARKER_HEIGHT] = i % 10 == 0 ? INT64_MAX : i;
     }
-    call(called, (uint64_t[6]){(uintptr_t)image, SIZE, (uintptr_t)fixes, SIDE * SIDE * MARKER_FIX_LENGTH, (uintptr_t)answers,
+    call(called, (uint64_t[6]){(uintptr_t)image, size, (uintptr_t)fixes, SIDE * SIDE * MARKER_FIX_LENGTH, (uintptr_t)answers,
                                SIDE * SIDE * MARKER_ANSWER_LENGTH});
 }
 
-/* Some calls on grid G, and on it with each byte in turn changed. */
+/* Some calls on the image, and on it with each byte in turn changed. */
 static void on_images(function *called, void (*calls)(function *)) {
     const uint8_t changes[] = {0, 1, 127, 255};
     calls(called);
-    for (int i = 0; i < SIZE; i++) {
+    for (size_t i = 0; i < size; i++) {
         uint8_t before = image[i];
         for (size_t k = 0; k < sizeof changes; k++) {
             image[i] = changes[k];
@@ -91,6 +93,11 @@ static void writings(function *called) {
     }
 }
 
+/* The image's edition, by the lowest byte of its last number. */
+static int edition(void) {
+    return image[size - 4];
+}
+
 /* Makes the calls and compares what they wrote of the stack with the figure. A call writes at least its return address. */
 static void measure(const char *name, function *called, void (*calls)(function *), size_t figure) {
     memset(stack, FILLING, STACK_SIZE);
@@ -101,19 +108,23 @@ static void measure(const char *name, function *called, void (*calls)(function *
     }
     size_t written = STACK_SIZE - untouched;
     bool fits = 0 < written && written <= figure;
-    printf("%s stack: %s writes %zu bytes, marker.h says %zu\n", fits ? "ok" : "FAILED", name, written, figure);
+    printf("%s stack: %s writes %zu bytes with edition %d, marker.h says %zu\n", fits ? "ok" : "FAILED", name, written, edition(),
+           figure);
     failures += fits ? 0 : 1;
 }
 
 int main(void) {
-    if (fread(image, 1, SIZE, stdin) != SIZE) {
-        fprintf(stderr, "stack: standard input is not grid G\n");
+    size = fread(image, 1, MOST_BYTES, stdin);
+    if (size < MARKER_TRAILER_LENGTH || size == MOST_BYTES) {
+        fprintf(stderr, "stack: standard input is no image of fewer than %d bytes\n", MOST_BYTES);
         return 2;
     }
     measure("marker_grid_check", (function *)marker_grid_check, checks, MARKER_GRID_CHECK_STACK);
     measure("marker_list_out", (function *)marker_list_out, lists, MARKER_LIST_OUT_STACK);
     measure("marker_list_back", (function *)marker_list_back, lists, MARKER_LIST_BACK_STACK);
-    measure("marker_read_notation", (function *)marker_read_notation, readings, MARKER_READ_NOTATION_STACK);
-    measure("marker_write_notation", (function *)marker_write_notation, writings, MARKER_WRITE_NOTATION_STACK);
+    if (edition() == 1) {
+        measure("marker_read_notation", (function *)marker_read_notation, readings, MARKER_READ_NOTATION_STACK);
+        measure("marker_write_notation", (function *)marker_write_notation, writings, MARKER_WRITE_NOTATION_STACK);
+    }
     return failures == 0 ? 0 : 1;
 }

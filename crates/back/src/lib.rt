@@ -1,12 +1,11 @@
 // The way back over an opened image, from a Bessel point in the bounds and a NAP height to ETRS89.
 use lookup::PointLookup;
-use lookup::look_up;
-use lookup::runs_of;
 use rules::Answer;
 use rules::Correction;
 use rules::Layout;
 use rules::Point;
 use rules::Position;
+use source::look_up;
 ghost use mathlib.Core.Path.{_≡_};
 ghost use Prim.Native.Nat.{_≤_};
 ghost use lib.IntN.{natAbs, _+ℤ_};
@@ -14,15 +13,14 @@ ghost use Rattle.rules.specs.Units.{backHeightLimit, quasiGeoidLimit};
 ghost use Rattle.rules.specs.Image.{gridOf};
 ghost use Rattle.rules.specs.Limits.{PointWithin, CorrectionWithin};
 ghost use Rattle.rules.specs.Ways as ways;
-ghost use Rattle.lookup.specs.Held.{OpenAround};
+ghost use Rattle.source.specs.Asked.{OpenAround};
 
 // The way back after questions 7 and 8, over an opened image: the corrections and the quasi-geoid height at the point, added.
 pub fn back_from(image: &[u8], l: Layout, q: Point, height: i64) -> Answer
     requires { ⌜ OpenAround (now image) l q × (natAbs height ≤ backHeightLimit) ⌝ }
     ensures { λ r. ⌜ ways.answerOf r ≡ ways.back (ways.sourceOf (gridOf (now (image .entry)) l)) q height ⌝ }
 {
-    let g = l.latitude.geometry;
-    match look_up(image, g, runs_of(l), q) {
+    match look_up(image, l, q) {
         PointLookup::Values(v) => {
             let c = v.correction;
             Answer::Values(added(q, height, c, v.height))

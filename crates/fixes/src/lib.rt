@@ -1,5 +1,5 @@
 // Lists of fixes: one call converts all its fixes the same way, out or back, into the answer list that is lent to it.
-use image::layout_for;
+use image::layout_of;
 use image::open;
 use refusals::refusal_number;
 use rules::Answer;
@@ -44,11 +44,11 @@ fn convert_list(way: Way, image: &[u8], fixes: &[i64], answers: &mut [i64]) -> i
         ≡ after (convertList way (now (image .entry)) (now (fixes .entry)) (now (answers .entry))) (now (answers .entry)) ⌝ }
 {
     match open(image) {
-        Opened::Nodes(n) => {
+        Opened::Separate(s) => {
             if !lengths_pass(fixes, answers) {
                 return refusal_number(Refusal::ListLengths);
             }
-            convert_all(way, image, layout_for(n), fixes, answers);
+            convert_all(way, image, layout_of(image, s), fixes, answers);
             0
         }
         Opened::Refused(r) => refusal_number(r),

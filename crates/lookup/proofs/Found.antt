@@ -1,52 +1,74 @@
 -- The lookups in terms of the held cell around a point, the limits that question 9 establishes of the values there, and the cell held for a
 -- further point.
-use mathlib.Core.Bool.{Bool, true, false}
+use mathlib.Core.Bool.{Bool, true, false, cond, _&&_}
 use mathlib.Core.List.{List}
 use mathlib.Core.Path.{_≡_, refl, sym, ap, subst, _∙_}
 use Prim.Native.Nat.{ℕ, _≤_}
 use native.Mathlib.Nat.{mul-pos}
 use native.Mathlib.Omega.{arith}
 use lib.Dec.{leb}
-use lib.IntN.{ℤ, natAbs}
+use lib.IntN.{ℤ, pos, natAbs}
 use lib.ListN.{length}
 use Rattle.integers.specs.Machine.{zarith}
 use Rattle.integers.specs.Booleans.{and-left, and-right, all-three}
 use Rattle.rules.specs.declared.Axis.{Axis}
 use Rattle.rules.specs.declared.Geometry.{Geometry}
+use Rattle.rules.specs.declared.Plane.{Plane}
 use Rattle.rules.specs.declared.Layout.{Layout}
 use Rattle.rules.specs.declared.Point.{Point}
 use Rattle.rules.specs.declared.Square.{Square}
 use Rattle.rules.specs.declared.Correction.{Correction}
 use Rattle.rules.specs.Units.{correctionLimit, quasiGeoidLimit}
-use Rattle.rules.specs.Answers.{Outcome, values, number, ask}
-use Rattle.rules.specs.Image.{Grid, gridOf}
-use Rattle.rules.specs.Limits.{Sized, GeometryPasses, Open, CornersWithin, CorrectionWithin}
-use Rattle.rules.specs.Bilinear.{offset, partOf, cellFor, valueAt}
-use Rattle.rules.specs.Lookup.{inside, squarePasses, question9, correctionsAt, correctionLookup, heightLookup}
+use Rattle.rules.specs.Answers.{Outcome, values, ask}
+use Rattle.rules.specs.Image.{Grid, plane, gridOf}
+use Rattle.rules.specs.Limits.{Sized, GeometryPasses, InImage, Open, CornersWithin, CorrectionWithin}
+use Rattle.rules.specs.Bilinear.{offset, partOf, cellFor, corners, valueAt}
+use Rattle.rules.specs.Lookup.{inside, squarePasses, question9, correctionsPass, correctionLookup, correctionGridLookup, heightLookup}
+use Rattle.rules.specs.Ways.{sourceOf}
 use Rattle.rules.proofs.Cells.{part-for-most, cell-start, cell-most, cell-is, on-latitude, on-longitude}
-use Rattle.rules.proofs.Answers.{asked, answered-yes}
+use Rattle.rules.proofs.Answers.{asked}
 use Rattle.rules.proofs.Limits.{corners-within}
 use Rattle.rules.proofs.Weights.{value-within}
 use Rattle.axis.specs.Place.{reaches}
 use Rattle.rules.specs.declared.Runs.{Runs}
 use Rattle.lookup.specs.declared.HeldCell.{HeldCell}
 use Rattle.lookup.specs.declared.CellCorners.{CellCorners}
-use Rattle.lookup.specs.declared.PointValues.{PointValues}
-use Rattle.lookup.specs.Held.{runsOf, layoutFrom, cornersPass, sideFor, heldCell, heldAt, liesIn}
+use Rattle.lookup.specs.Held.{runOf, runsOf, planeOf, layoutFrom, square, heightCorners, cornersPass}
+use Rattle.lookup.specs.Held.{sideFor, heldCell, heldAt, liesIn}
 use Rattle.lookup.specs.Held.{cornersOf, valueIn, valueBetween, correctionsIn, heightIn}
-use Rattle.lookup.specs.Held.{Bounded, OpenAround, Holds, pointLookup}
+use Rattle.lookup.specs.Held.{Bounded, CellsOpen, Holds}
+
+-- Question 9 of a cell's corners: zeros for heights pass it.
+and-true : (a : Bool) → (a && true) ≡ a
+and-true true = refl
+and-true false = refl
+
+corners-asked : (separate : Bool) (latitude longitude height : Square) →
+    let a = squarePasses correctionLimit latitude in
+    let o = squarePasses correctionLimit longitude in
+    let h = cond separate (square (pos 0) (pos 0) (pos 0) (pos 0)) height in
+    cornersPass (record { latitude = latitude; longitude = longitude; height = h })
+    ≡ cond separate (a && o) (a && (o && squarePasses quasiGeoidLimit height))
+unfolding cornersPass squarePasses
+corners-asked false latitude longitude height = refl
+corners-asked true latitude longitude height = rw (and-true (squarePasses correctionLimit longitude))
+
+-- One question or another.
+asked-either : {A : Type 0} (t s r : Bool) (n : ℕ) (next : Outcome A) → cond t (ask s n next) (ask r n next) ≡ ask (cond t s r) n next
+asked-either true s r n next = refl
+asked-either false s r n next = refl
 
 -- The corrections' lookup puts question 9 to the corners of the point's cell, and weighs the corrections there.
 pub corrections-from : (g : Grid) (p : Point) (h : HeldCell) → h ≡ heldAt g p
-    → correctionLookup g p ≡ ask (h .passes) 9 (values (correctionsIn h (g .corrections) p))
-unfolding correctionLookup question9 cornersPass heldAt heldCell valueAt partOf valueIn
-corrections-from g p h e = rw e refl
+    → sourceOf g .corrections p ≡ ask (h .passes) 9 (values (correctionsIn h (g .corrections) p))
+unfolding correctionLookup correctionGridLookup question9 correctionsPass heldAt heldCell valueAt partOf valueIn
+corrections-from g p h e = rw (e, corners-asked, asked-either) refl
 
--- So does the height's, where heights have the corrections' geometry.
-pub height-from : (g : Grid) (p : Point) (h : HeldCell) → h ≡ heldAt g p → g .heights ≡ g .corrections
+-- So does the height's, where the heights stand at the same nodes.
+pub height-from : (g : Grid) (p : Point) (h : HeldCell) → h ≡ heldAt g p → g .separate ≡ false → g .heights ≡ g .corrections
     → heightLookup g p ≡ heightIn h (g .corrections) p
 unfolding heightLookup question9 cornersPass heldAt heldCell valueAt partOf valueIn
-height-from g p h e same = rw (e, same) refl
+height-from g p h e one same = rw (e, same, one) refl
 
 -- What question 9 says of each plane's corners that pass it, and in a cell that holds a point and passes.
 pub record Passing (c : CellCorners) : Type 0 where
@@ -96,38 +118,60 @@ cell-holds g p b =
 pub held-holds : (g : Grid) (p : Point) (h : HeldCell) → h ≡ heldAt g p → Bounded (g .corrections) p → Holds h (g .corrections) p
 held-holds g p h e b = rw e (cell-holds g p b)
 
--- The planes of an open layout have one geometry, so it is the layout of its runs.
-pub layout-of-runs : {size : ℕ} {l : Layout} → Open size l → layoutFrom (l .latitude .geometry) (runsOf l) ≡ l
-layout-of-runs {l} o =
-    λ i. record {
-      latitude = l .latitude;
-      longitude = record { geometry = sym (o .longitude-geometry) i; first = l .longitude .first; stride = l .longitude .stride };
-      height = record { geometry = sym (o .height-geometry) i; first = l .height .first; stride = l .height .stride };
-    }
+-- What `cell_around` asks and gives, where it is given the runs of an open layout: the planes of its corrections have one geometry, and so
+-- has that of the heights where these stand at the same nodes.
+same-heights : (separate : Bool) {f h : ℕ → ℕ → ℤ} → (separate ≡ false → f ≡ h) → heightCorners separate f ≡ heightCorners separate h
+same-heights false e = λ i. corners (e refl i)
+same-heights true e = refl
 
--- What `cell_around` and `look_up` ask and give, where they are given the runs of a layout.
+-- a plane with a geometry that is its own
+with-geometry : {g : Geometry} (p : Plane) → p .geometry ≡ g → p ≡ planeOf g (runOf p)
+with-geometry p same = λ i. record { geometry = same i; first = p .first; stride = p .stride }
+
+module _ {size : ℕ} {l : Layout} {r : Runs} (o : Open size l) (e : r ≡ runsOf l) where
+  pub cells-open : CellsOpen size (l .separate) (l .latitude .geometry) r
+  cells-open =
+      rw e
+      (record {
+        latitude = o .latitude;
+        longitude = subst (InImage size) (with-geometry (l .longitude) (o .longitude-geometry)) (o .longitude);
+        height = λ one. subst (InImage size) (with-geometry (l .height) (o .height-geometry one)) (o .height);
+      })
+
+  -- the layout of the runs is then the layout
+  pub one-layout : l .separate ≡ false → layoutFrom false (l .latitude .geometry) r ≡ l
+  one-layout one =
+      rw e
+      (λ i. record {
+        separate = sym one i;
+        latitude = l .latitude;
+        longitude = sym (with-geometry (l .longitude) (o .longitude-geometry)) i;
+        height = sym (with-geometry (l .height) (o .height-geometry one)) i;
+      })
+
 module _ (b : List ℕ) {l : Layout} {r : Runs} (o : Open (length b) l) (e : r ≡ runsOf l) where
-  runs-layout : layoutFrom (l .latitude .geometry) r ≡ l
-  runs-layout = rw e (layout-of-runs o)
-
-  pub around-runs : {p : Point} → inside (l .latitude .geometry) p ≡ true → OpenAround b (layoutFrom (l .latitude .geometry) r) p
-  around-runs i = record { layout = subst (Open (length b)) (sym runs-layout) o; point = i }
-
-  pub held-runs : (p : Point) {h : HeldCell} → h ≡ heldAt (gridOf b (layoutFrom (l .latitude .geometry) r)) p → h ≡ heldAt (gridOf b l) p
-  held-runs p h = h ∙ (λ i. heldAt (gridOf b (runs-layout i)) p)
-
-  pub point-runs : (p : Point) {v : Outcome PointValues} → v ≡ pointLookup (gridOf b (layoutFrom (l .latitude .geometry) r)) p
-      → v ≡ pointLookup (gridOf b l) p
-  point-runs p e = e ∙ (λ i. pointLookup (gridOf b (runs-layout i)) p)
-
--- The same of an open image around a point, and the height's lookup there.
-pub around-holds : {b : List ℕ} {l : Layout} {p : Point} {h : HeldCell} → OpenAround b l p → h ≡ heldAt (gridOf b l) p
-    → Holds h (l .latitude .geometry) p
-around-holds {b} {l} {p} o e = held-holds (gridOf b l) p _ e (bounded (o .layout .latitude .geometry) (o .point))
-
-pub height-around : {b : List ℕ} {l : Layout} {p : Point} {h : HeldCell} → OpenAround b l p → h ≡ heldAt (gridOf b l) p
-    → heightLookup (gridOf b l) p ≡ heightIn h (l .latitude .geometry) p
-height-around {b} {l} {p} o e = height-from (gridOf b l) p _ e (o .layout .height-geometry)
+  pub held-runs : (p : Point) {h : HeldCell} → h ≡ heldAt (gridOf b (layoutFrom (l .separate) (l .latitude .geometry) r)) p
+      → h ≡ heldAt (gridOf b l) p
+  unfolding heldAt heldCell
+  held-runs p {h} k =
+      let g = l .latitude .geometry in
+      let row = cellFor (g .latitude) (p .latitude) in
+      let column = cellFor (g .longitude) (p .longitude) in
+      let longitude = ap (plane b) (sym (with-geometry (l .longitude) (o .longitude-geometry))) in
+      let height = same-heights (l .separate) (λ one. ap (plane b) (sym (with-geometry (l .height) (o .height-geometry one)))) in
+      (rw e at k)
+      ∙ (λ i. let c : CellCorners = record {
+        latitude = corners (plane b (l .latitude)) row column;
+        longitude = corners (longitude i) row column;
+        height = height i row column;
+      } in record {
+        south = sideFor (g .latitude) (p .latitude);
+        west = sideFor (g .longitude) (p .longitude);
+        latitude = c .latitude;
+        longitude = c .longitude;
+        height = c .height;
+        passes = cornersPass c;
+      })
 
 -- An angle that lies in the cell of another has that cell.
 same-along : (a : Axis) (z w : ℤ) → Sized a → reaches (sideFor a z) (a .spacing) (offset a w) ≡ true → cellFor a w ≡ cellFor a z
@@ -164,7 +208,7 @@ corrections-within {h} t k =
     let w = passing k t in
     record { latitude = between-within (h .latitude) (w .latitude) k; longitude = between-within (h .longitude) (w .longitude) k }
 
--- A height that is found is within question 9's limit, in a held cell and by the lookup.
+-- A height that is found in a held cell is within question 9's limit.
 pub height-in-within : (h : HeldCell) (g : Geometry) (p : Point) (z : ℤ) → Holds h g p → heightIn h g p ≡ values z
     → natAbs z ≤ quasiGeoidLimit
 height-in-within h g p z k e =
@@ -172,31 +216,8 @@ height-in-within h g p z k e =
     let v : valueBetween (h .height) h g p ≡ z = cc (t .1) in
     rw v at (between-within _ (passing k (t .0) .height) k)
 
-pub height-within : (g : Grid) (p : Point) (z : ℤ) → Bounded (g .corrections) p → g .heights ≡ g .corrections
-    → heightLookup g p ≡ values z → natAbs z ≤ quasiGeoidLimit
-height-within g p z b same h =
-    height-in-within (heldAt g p) (g .corrections) p z (cell-holds g p b) (sym (height-from g p (heldAt g p) refl same) ∙ h)
-
--- The lookup of all values is both lookups at once: what it finds each of them finds, and where it refuses, so do they.
-pub both-found : (g : Grid) (p : Point) (v : PointValues) → g .heights ≡ g .corrections → pointLookup g p ≡ values v
-    → (correctionLookup g p ≡ values (v .correction)) × (heightLookup g p ≡ values (v .height))
-unfolding correctionLookup heightLookup pointLookup question9
-both-found g p v same e =
-    let t = asked (question9 g p) 9 _ v e in
-    let k : correctionsAt g p ≡ v .correction = cc (t .1) in
-    let h : valueAt (g .corrections) (g .height) p ≡ v .height = cc (t .1) in
-    (answered-yes _ 9 _ (t .0) ∙ ap values k, rw same (answered-yes _ 9 _ (t .0) ∙ ap values h))
-
-refused-alike : {A B : Type 0} (t : Bool) (a : A) (b : B) (n : ℕ) → ask t 9 (values a) ≡ number n → ask t 9 (values b) ≡ number n
-refused-alike true a b n e = let z : _≡_ {A = ℕ} 0 1 = cc in absurd (omega arith)
-refused-alike false a b n e = cc
-
-pub corrections-refused : (g : Grid) (p : Point) (n : ℕ) → pointLookup g p ≡ number n → correctionLookup g p ≡ number n
-unfolding correctionLookup pointLookup
-corrections-refused g p n e = refused-alike (question9 g p) _ _ n e
-
 -- Corrections that are found are within their limit.
-pub found-within : (g : Grid) (p : Point) (c : Correction) → Bounded (g .corrections) p → correctionLookup g p ≡ values c
+pub found-within : (g : Grid) (p : Point) (c : Correction) → Bounded (g .corrections) p → sourceOf g .corrections p ≡ values c
     → CorrectionWithin c
 found-within g p c b e =
     let h = heldAt g p in

@@ -2,3 +2,4 @@
 pub mod Found
 pub mod Squares
 pub mod Places
+pub mod OnGrids

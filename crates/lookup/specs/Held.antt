@@ -1,10 +1,8 @@
--- The cell around a point as it is read from an image, which points lie in such a cell, and the corrections there.
-use mathlib.Core.Bool.{Bool, true, _&&_}
-use mathlib.Core.List.{List}
+-- The cell around a point as it is read from an image, which points lie in such a cell, and the values there.
+use mathlib.Core.Bool.{Bool, true, false, cond, _&&_}
 use mathlib.Core.Path.{_≡_}
 use Prim.Native.Nat.{ℕ, _-_, _*_, _≤_}
-use lib.IntN.{ℤ}
-use lib.ListN.{length}
+use lib.IntN.{ℤ, pos}
 use Rattle.rules.specs.declared.Axis.{Axis}
 use Rattle.rules.specs.declared.Geometry.{Geometry}
 use Rattle.rules.specs.declared.Plane.{Plane}
@@ -14,9 +12,9 @@ use Rattle.rules.specs.declared.Square.{Square}
 use Rattle.rules.specs.declared.Correction.{Correction}
 use Rattle.rules.specs.Units.{correctionLimit, quasiGeoidLimit}
 use Rattle.rules.specs.Answers.{Outcome, values, number, numberOf, ask}
-use Rattle.rules.specs.Image.{Grid, gridOf}
-use Rattle.rules.specs.Limits.{GeometryPasses, Open}
-use Rattle.rules.specs.Bilinear.{offset, cellFor, corners, bilinear, valueAt}
+use Rattle.rules.specs.Image.{Grid}
+use Rattle.rules.specs.Limits.{GeometryPasses, InImage}
+use Rattle.rules.specs.Bilinear.{offset, cellFor, partFor, corners, bilinear, valueAt}
 use Rattle.rules.specs.Lookup.{inside, squarePasses, question9, correctionsAt}
 use Rattle.axis.specs.Place.{reaches}
 use Rattle.bilinear.specs.Mean.{Spacing, InCell}
@@ -29,6 +27,7 @@ use Rattle.rules.specs.declared.Run.{Run}
 use Rattle.rules.specs.declared.Runs.{Runs}
 use Rattle.lookup.specs.declared.Offsets.{Offsets}
 use Rattle.lookup.specs.declared.PlaceInCell.{PlaceInCell}
+use Rattle.lookup.specs.declared.CellPlace.{CellPlace}
 
 -- A plane's first byte and stride, those of a layout's planes, and the plane that they are with a geometry.
 abbrev pub runOf : Plane → Run
@@ -40,21 +39,34 @@ runsOf l = record { latitude = runOf (l .latitude); longitude = runOf (l .longit
 abbrev pub planeOf : Geometry → Run → Plane
 planeOf g r = record { geometry = g; first = r .first; stride = r .stride }
 
--- The layout of three planes with one geometry.
-abbrev pub layoutFrom : Geometry → Runs → Layout
-layoutFrom g r = record { latitude = planeOf g (r .latitude); longitude = planeOf g (r .longitude); height = planeOf g (r .height) }
+-- The layout of three planes with one geometry. Where the heights stand on a separate grid it is read for corrections alone.
+abbrev pub layoutFrom : (separate : Bool) → Geometry → Runs → Layout
+layoutFrom separate g r =
+    record { separate = separate; latitude = planeOf g (r .latitude); longitude = planeOf g (r .longitude); height = planeOf g (r .height) }
+
+-- The planes that a cell is read from are in an image of `size` bytes: those of the corrections, and that of the heights
+-- where these stand at the same nodes.
+pub record CellsOpen (size : ℕ) (separate : Bool) (g : Geometry) (r : Runs) : Type 0 where
+  pub latitude : InImage size (planeOf g (r .latitude))
+  pub longitude : InImage size (planeOf g (r .longitude))
+  pub height : separate ≡ false → InImage size (planeOf g (r .height))
 
 -- A square of four corner values.
 abbrev pub square : (sw se nw ne : ℤ) → Square
 square sw se nw ne = record { southwest = sw; southeast = se; northwest = nw; northeast = ne }
 
--- Each value at the corners of the cell of a row and a column.
+-- The heights at the corners of the cell of a row and a column: zeros where they stand on a separate grid, since a cell of corrections then
+-- has none.
+abbrev pub heightCorners : (separate : Bool) → (ℕ → ℕ → ℤ) → (row column : ℕ) → Square
+heightCorners separate f row column = cond separate (square (pos 0) (pos 0) (pos 0) (pos 0)) (corners f row column)
+
+-- Each value there.
 abbrev pub cellCorners : Grid → (row column : ℕ) → CellCorners
 cellCorners g row column =
     record {
       latitude = corners (g .latitude) row column;
       longitude = corners (g .longitude) row column;
-      height = corners (g .height) row column;
+      height = heightCorners (g .separate) (g .height) row column;
     }
 
 -- Question 9 of the three values at a cell's corners.
@@ -92,14 +104,18 @@ pub record Bounded (g : Geometry) (p : Point) : Type 0 where
   pub geometry : GeometryPasses g
   pub point : inside g p ≡ true
 
--- An image that is open with a layout, and a point in its bounds.
-pub record OpenAround (b : List ℕ) (l : Layout) (p : Point) : Type 0 where
-  pub layout : Open (length b) l
-  pub point : inside (l .latitude .geometry) p ≡ true
-
 -- How far a point in the bounds lies from the south and the west bound.
 abbrev pub offsetsOf : Geometry → Point → Offsets
 offsetsOf g p = record { northing = offset (g .latitude) (p .latitude); easting = offset (g .longitude) (p .longitude) }
+
+-- The cell of a point in the bounds, and the point's place in it.
+abbrev pub cellPlace : Geometry → Point → CellPlace
+cellPlace g p =
+    record {
+      row = cellFor (g .latitude) (p .latitude);
+      column = cellFor (g .longitude) (p .longitude);
+      at = record { u = partFor (g .latitude) (p .latitude); v = partFor (g .longitude) (p .longitude) };
+    }
 
 -- The place of a point in a held cell.
 abbrev pub placeIn : HeldCell → Geometry → Point → PlaceInCell
@@ -119,10 +135,6 @@ unfoldable pub liesIn : HeldCell → Geometry → Point → Bool
 liesIn h g p =
     reaches (h .south) (g .latitude .spacing) (offsetsOf g p .northing)
     && reaches (h .west) (g .longitude .spacing) (offsetsOf g p .easting)
-
--- A held cell is the one around a point, where the point lies in it.
-abbrev pub HeldFor : HeldCell → List ℕ → Layout → Point → Type 0
-HeldFor h b l p = liesIn h (l .latitude .geometry) p ≡ true → h ≡ heldAt (gridOf b l) p
 
 -- The corners of a held cell.
 abbrev pub cornersOf : HeldCell → CellCorners
@@ -160,9 +172,9 @@ valuesIn c g at =
       height = valueIn (c .height) g at;
     }
 
--- The lookup of all values at a point in the bounds, where heights have the corrections' geometry: question 9 for its cell, then the values.
-unfoldable pub pointLookup : Grid → Point → Outcome PointValues
-pointLookup g p =
+-- The lookup of all values at a point in the bounds, on one grid: question 9 for its cell, then the values.
+unfoldable pub nodeLookup : Grid → Point → Outcome PointValues
+nodeLookup g p =
     ask (question9 g p) 9 (values (record { correction = correctionsAt g p; height = valueAt (g .corrections) (g .height) p }))
 
 -- The code's answer, in these terms.

@@ -1,2 +1,3 @@
 -- What the contracts of the lookups cite.
 pub mod Held
+pub mod Grids

@@ -1,10 +1,11 @@
-// The lookups at a point in the bounds: the cell around it, read from an opened image, and the values there.
+// The cell around a point, read from an opened image, and the values there.
 use axis::is_reached;
 use axis::locate;
 use axis::offset_on;
 use bilinear::are_near;
 use bilinear::weigh;
 use bilinear::weigh_near;
+use geometry::in_bounds;
 use nodes::corners_at;
 use nodes::square_passes;
 use rules::CORRECTION_LIMIT;
@@ -20,18 +21,21 @@ use rules::Run;
 use rules::Runs;
 use rules::Square;
 ghost use mathlib.Core.Path.{_≡_};
-ghost use mathlib.Core.Bool.{true};
+ghost use mathlib.Core.Bool.{true, false, _&&_};
 ghost use Prim.Native.Nat.{_+_, _*_, _<_};
 ghost use lib.ListN.{length};
 ghost use Rattle.rules.specs.Units.{correctionLimit};
-ghost use Rattle.rules.specs.Image.{gridOf, rows, columns};
-ghost use Rattle.rules.specs.Limits.{Open, CornersWithin};
+ghost use Rattle.rules.specs.Image.{plane, gridOf, rows, columns};
+ghost use Rattle.rules.specs.Limits.{InImage, Open, CornersWithin};
 ghost use Rattle.bilinear.specs.Mean.{near};
-ghost use Rattle.rules.specs.Lookup.{heightLookup, heightLookupOf};
+ghost use Rattle.rules.specs.Lookup.{inside, squarePasses, heightLookupOf};
 ghost use Rattle.lookup.specs.Held.{runOf, runsOf, planeOf, layoutFrom, cornersPass, heldAt, liesIn, offsetsOf, placeIn};
-ghost use Rattle.lookup.specs.Held.{square, cellCorners, SpacingsPass, InCellOf, valueIn, valuesIn, correctionsIn, heightIn};
-ghost use Rattle.lookup.specs.Held.{pointLookup, pointLookupOf};
-ghost use Rattle.lookup.specs.Held.{Bounded, OpenAround, HeldFor, Holds};
+ghost use Rattle.lookup.specs.Held.{square, heightCorners, cellCorners, SpacingsPass, InCellOf};
+ghost use Rattle.lookup.specs.Held.{valueIn, valuesIn, correctionsIn, heightIn};
+ghost use Rattle.lookup.specs.Held.{cellPlace, nodeLookup, pointLookupOf};
+ghost use Rattle.lookup.specs.Grids.{correctionCell, correctionCellOf, heightCell, heightCellOf, CorrectionsWeighed, HeightsWeighed};
+ghost use Rattle.lookup.specs.Grids.{valuesOn, gridsLookup, heightOn};
+ghost use Rattle.lookup.specs.Held.{Bounded, CellsOpen, Holds};
 
 // A cell read from an image: the distance of its south side from the south bound and of its west side from the west bound, each plane's
 // values at its corners, and the answer to question 9.
@@ -63,6 +67,30 @@ pub enum PointLookup {
     Refused(Refusal),
 }
 
+// The corrections at the corners of a point's cell on a grid of corrections alone, and the point's place in it.
+pub struct CorrectionCorners {
+    pub latitude: Square,
+    pub longitude: Square,
+    pub at: PlaceInCell,
+}
+
+// The heights at the corners of a point's cell on a height grid, and the point's place in it.
+pub struct HeightCorners {
+    pub height: Square,
+    pub at: PlaceInCell,
+}
+
+// What reading the corners of a point's cell on either grid answers: they, or a refusal.
+pub enum CorrectionCell {
+    Corners(CorrectionCorners),
+    Refused(Refusal),
+}
+
+pub enum HeightCell {
+    Corners(HeightCorners),
+    Refused(Refusal),
+}
+
 // How far a point lies from the south and from the west bound.
 pub struct Offsets {
     pub northing: u64,
@@ -75,16 +103,23 @@ pub struct PlaceInCell {
     pub v: u64,
 }
 
-// The cell of a point in the bounds, with question 9 put to its corners: of planes with one geometry. Only what is read of a layout is
-// passed, because copying a whole layout for each call takes longer.
-pub fn cell_around(image: &[u8], g: Geometry, r: Runs, p: Point) -> HeldCell
-    requires { ⌜ OpenAround (now image) (layoutFrom g r) p ⌝ }
-    ensures { λ h. ⌜ h ≡ heldAt (gridOf (now (image .entry)) (layoutFrom g r)) p ⌝ }
+// The cell of a point, by row and column, and the point's place in it.
+pub struct CellPlace {
+    pub row: u64,
+    pub column: u64,
+    pub at: PlaceInCell,
+}
+
+// The cell of a point in the bounds, with question 9 put to its corners. Only what is read of a layout is passed, because copying a whole
+// layout for each call takes longer.
+pub fn cell_around(image: &[u8], separate: bool, g: Geometry, r: Runs, p: Point) -> HeldCell
+    requires { ⌜ CellsOpen (length (now image)) separate g r × Bounded g p ⌝ }
+    ensures { λ h. ⌜ h ≡ heldAt (gridOf (now (image .entry)) (layoutFrom separate g r)) p ⌝ }
 {
     let from = offsets_of(g, p);
     let row = locate(g.latitude, from.northing);
     let column = locate(g.longitude, from.easting);
-    let c = corners_around(image, g, r, row.cell, column.cell);
+    let c = corners_around(image, separate, g, r, row.cell, column.cell);
     let latitude = c.latitude;
     let longitude = c.longitude;
     let height = c.height;
@@ -99,14 +134,21 @@ pub fn cell_around(image: &[u8], g: Geometry, r: Runs, p: Point) -> HeldCell
     }
 }
 
-// The corners of the cell of a row and a column, of each plane.
-fn corners_around(image: &[u8], g: Geometry, r: Runs, row: u64, column: u64) -> CellCorners
-    requires { ⌜ Open (length (now image)) (layoutFrom g r) × ((row + 1 < rows g) × (column + 1 < columns g)) ⌝ }
-    ensures { λ c. ⌜ c ≡ cellCorners (gridOf (now (image .entry)) (layoutFrom g r)) row column ⌝ }
+// The corners of the cell of a row and a column.
+fn corners_around(
+    image: &[u8],
+    separate: bool,
+    g: Geometry,
+    r: Runs,
+    row: u64,
+    column: u64,
+) -> CellCorners
+    requires { ⌜ CellsOpen (length (now image)) separate g r × ((row + 1 < rows g) × (column + 1 < columns g)) ⌝ }
+    ensures { λ c. ⌜ c ≡ cellCorners (gridOf (now (image .entry)) (layoutFrom separate g r)) row column ⌝ }
 {
     let latitude = corners_at(image, plane_of(g, r.latitude), row, column);
     let longitude = corners_at(image, plane_of(g, r.longitude), row, column);
-    let height = corners_at(image, plane_of(g, r.height), row, column);
+    let height = heights_around(image, separate, plane_of(g, r.height), row, column);
     CellCorners {
         latitude,
         longitude,
@@ -114,22 +156,165 @@ fn corners_around(image: &[u8], g: Geometry, r: Runs, row: u64, column: u64) -> 
     }
 }
 
-// The lookup of all values at a point in the bounds: question 9 for its cell, then the values. The way back asks for them once, and holds
-// no cell.
-pub fn look_up(image: &[u8], g: Geometry, r: Runs, p: Point) -> PointLookup
-    requires { ⌜ OpenAround (now image) (layoutFrom g r) p ⌝ }
-    ensures { λ v. ⌜ pointLookupOf v ≡ pointLookup (gridOf (now (image .entry)) (layoutFrom g r)) p ⌝ }
+// The heights there. Where these stand on a separate grid, a cell of corrections has none: zeros, which pass question 9, stand for them.
+fn heights_around(image: &[u8], separate: bool, p: Plane, row: u64, column: u64) -> Square
+    requires { ⌜ ((separate ≡ false) → InImage (length (now image)) p)
+        × ((row + 1 < rows (p .geometry)) × (column + 1 < columns (p .geometry))) ⌝ }
+    ensures { λ r. ⌜ r ≡ heightCorners separate (plane (now (image .entry)) p) row column ⌝ }
+{
+    if separate {
+        return Square {
+            southwest: 0,
+            southeast: 0,
+            northwest: 0,
+            northeast: 0,
+        };
+    }
+    corners_at(image, p, row, column)
+}
+
+// The lookup of all values at a point in the bounds of one grid: question 9 for its cell, then the values. The way back asks for them once,
+// and holds no cell.
+pub fn look_up_nodes(image: &[u8], g: Geometry, r: Runs, p: Point) -> PointLookup
+    requires { ⌜ CellsOpen (length (now image)) false g r × Bounded g p ⌝ }
+    ensures { λ v. ⌜ pointLookupOf v ≡ nodeLookup (gridOf (now (image .entry)) (layoutFrom false g r)) p ⌝ }
+{
+    let cell = cell_of(g, p);
+    let c = corners_around(image, false, g, r, cell.row, cell.column);
+    if !corners_pass(c) {
+        return PointLookup::Refused(Refusal::NodeLimits);
+    }
+    let at = cell.at;
+    PointLookup::Values(values_between(c, g, at))
+}
+
+// The lookup of all values at a point in the bounds of the corrections, with heights on a separate grid: the corners on both grids, with
+// their questions, and then the values. All corners are read before the first value is weighed, so that the reads wait for memory together.
+pub fn look_up_grids(image: &[u8], l: Layout, p: Point) -> PointLookup
+    requires { ⌜ Open (length (now image)) l × (inside (l .latitude .geometry) p ≡ true) ⌝ }
+    ensures { λ v. ⌜ pointLookupOf v ≡ gridsLookup (gridOf (now (image .entry)) l) p ⌝ }
+{
+    match correction_cell(image, l.latitude, l.longitude, p) {
+        CorrectionCell::Corners(c) => match height_cell(image, l.height, p) {
+            HeightCell::Corners(h) => PointLookup::Values(values_on(
+                c,
+                l.latitude.geometry,
+                h,
+                l.height.geometry,
+            )),
+            HeightCell::Refused(r) => PointLookup::Refused(r),
+        },
+        CorrectionCell::Refused(r) => PointLookup::Refused(r),
+    }
+}
+
+// The corners of a point's cell on a grid of corrections alone, after question 9. The planes have one geometry.
+fn correction_cell(image: &[u8], latitude: Plane, longitude: Plane, p: Point) -> CorrectionCell
+    requires { ⌜ InImage (length (now image)) latitude × InImage (length (now image)) longitude
+        × (longitude .geometry ≡ latitude .geometry) × (inside (latitude .geometry) p ≡ true) ⌝ }
+    ensures { λ r. ⌜ correctionCellOf r
+        ≡ correctionCell (latitude .geometry) (plane (now (image .entry)) latitude) (plane (now (image .entry)) longitude) p ⌝ }
+{
+    let g = latitude.geometry;
+    let cell = cell_of(g, p);
+    let a = corners_at(image, latitude, cell.row, cell.column);
+    let b = corners_at(image, longitude, cell.row, cell.column);
+    if !corrections_pass(a, b) {
+        return CorrectionCell::Refused(Refusal::NodeLimits);
+    }
+    let at = cell.at;
+    CorrectionCell::Corners(CorrectionCorners {
+        latitude: a,
+        longitude: b,
+        at,
+    })
+}
+
+// Question 9 of the two corrections at a cell's corners.
+fn corrections_pass(latitude: Square, longitude: Square) -> bool
+    ensures { λ r. ⌜ r ≡ (squarePasses correctionLimit latitude && squarePasses correctionLimit longitude) ⌝ }
+{
+    if square_passes(latitude, CORRECTION_LIMIT) {
+        square_passes(longitude, CORRECTION_LIMIT)
+    } else {
+        false
+    }
+}
+
+// The corners of a point's cell on a separate height grid, after question 15 and question 9.
+fn height_cell(image: &[u8], p: Plane, q: Point) -> HeightCell
+    requires { ⌜ InImage (length (now image)) p ⌝ }
+    ensures { λ r. ⌜ heightCellOf r ≡ heightCell (p .geometry) (plane (now (image .entry)) p) q ⌝ }
+{
+    let g = p.geometry;
+    if !in_bounds(g, q) {
+        return HeightCell::Refused(Refusal::OffHeightGrid);
+    }
+    let cell = cell_of(g, q);
+    let height = corners_at(image, p, cell.row, cell.column);
+    if !square_passes(height, QUASI_GEOID_LIMIT) {
+        return HeightCell::Refused(Refusal::NodeLimits);
+    }
+    let at = cell.at;
+    HeightCell::Corners(HeightCorners { height, at })
+}
+
+// The values between the corners on both grids.
+fn values_on(c: CorrectionCorners, g: Geometry, h: HeightCorners, heights: Geometry) -> PointValues
+    requires { ⌜ CorrectionsWeighed g c × HeightsWeighed heights h ⌝ }
+    ensures { λ r. ⌜ r ≡ valuesOn c g h heights ⌝ }
+{
+    let a = c.latitude;
+    let b = c.longitude;
+    let at = c.at;
+    let latitude = value_between(a, g, at);
+    let longitude = value_between(b, g, at);
+    let height = height_between(h, heights);
+    let correction = Correction {
+        latitude,
+        longitude,
+    };
+    PointValues { correction, height }
+}
+
+// The value between the corners on a height grid.
+fn height_between(h: HeightCorners, g: Geometry) -> i64
+    requires { ⌜ HeightsWeighed g h ⌝ }
+    ensures { λ r. ⌜ r ≡ valueIn (h .height) g (h .at) ⌝ }
+{
+    let c = h.height;
+    let at = h.at;
+    value_between(c, g, at)
+}
+
+// The lookup of the quasi-geoid height at a point on a separate height grid: question 15, question 9 for its cell there, then the value.
+pub fn height_on(image: &[u8], p: Plane, q: Point) -> HeightLookup
+    requires { ⌜ InImage (length (now image)) p ⌝ }
+    ensures { λ r. ⌜ heightLookupOf r ≡ heightOn (p .geometry) (plane (now (image .entry)) p) q ⌝ }
+{
+    match height_cell(image, p, q) {
+        HeightCell::Corners(h) => HeightLookup::Height(height_between(h, p.geometry)),
+        HeightCell::Refused(r) => HeightLookup::Refused(r),
+    }
+}
+
+// The cell of a point in the bounds, and the point's place in it.
+fn cell_of(g: Geometry, p: Point) -> CellPlace
+    requires { ⌜ Bounded g p ⌝ }
+    ensures { λ r. ⌜ r ≡ cellPlace g p ⌝ }
 {
     let from = offsets_of(g, p);
     let row = locate(g.latitude, from.northing);
     let column = locate(g.longitude, from.easting);
-    let c = corners_around(image, g, r, row.cell, column.cell);
-    if !corners_pass(c) {
-        return PointLookup::Refused(Refusal::NodeLimits);
+    let at = PlaceInCell {
+        u: row.part,
+        v: column.part,
+    };
+    CellPlace {
+        row: row.cell,
+        column: column.cell,
+        at,
     }
-    let u = row.part;
-    let v = column.part;
-    PointLookup::Values(values_between(c, g, PlaceInCell { u, v }))
 }
 
 // What `cell_around` takes of a layout: where each plane's values begin, and how far apart they lie.
@@ -307,30 +492,9 @@ fn weighed(sw: i64, se: i64, nw: i64, ne: i64, g: Geometry, at: PlaceInCell) -> 
     )
 }
 
-// The lookup of the quasi-geoid height at a point in the bounds: in the held cell where the point lies in it, else in the point's own.
-pub fn height_at(image: &[u8], l: Layout, h: HeldCell, q: Point) -> HeightLookup
-    requires { ⌜ OpenAround (now image) l q × HeldFor h (now image) l q ⌝ }
-    ensures { λ r. ⌜ heightLookupOf r ≡ heightLookup (gridOf (now (image .entry)) l) q ⌝ }
-{
-    let g = l.latitude.geometry;
-    if lies_in(h, g, q) {
-        return height_in(h, g, q);
-    }
-    look_up_height(image, l, q)
-}
-
-// The same in the cell around the point.
-pub fn look_up_height(image: &[u8], l: Layout, q: Point) -> HeightLookup
-    requires { ⌜ OpenAround (now image) l q ⌝ }
-    ensures { λ r. ⌜ heightLookupOf r ≡ heightLookup (gridOf (now (image .entry)) l) q ⌝ }
-{
-    let g = l.latitude.geometry;
-    height_in(cell_around(image, g, runs_of(l), q), g, q)
-}
-
 // The quasi-geoid height at a point in a held cell: question 9 as the cell answers it, then the value between its heights, by the choice of
 // `value_between`. It stands here once more, because the compiler made calls of both cases where only one function had it.
-fn height_in(h: HeldCell, g: Geometry, q: Point) -> HeightLookup
+pub fn height_in(h: HeldCell, g: Geometry, q: Point) -> HeightLookup
     requires { ⌜ Holds h g q ⌝ }
     ensures { λ r. ⌜ heightLookupOf r ≡ heightIn h g q ⌝ }
 {

@@ -13,7 +13,7 @@ use Rattle.rules.specs.Answers.{Outcome, ask, andThen}
 use Rattle.rules.specs.Image.{gridOf}
 use Rattle.rules.specs.Questions.{opening}
 use Rattle.rules.specs.Limits.{Open}
-use Rattle.rules.specs.Lookup.{heightLookup, heightLookupOf}
+use Rattle.rules.specs.Lookup.{heightLookupOf}
 use Rattle.rules.specs.Ways.{Source, sourceOf, convertOver, answerOf}
 use Rattle.opened.specs.declared.Fix.{Fix}
 
@@ -23,13 +23,14 @@ Opens b l f = Open (length b) l
 
 -- The answer is the lookup of the quasi-geoid height at the point.
 abbrev pub IsLookup : List ℕ → Layout → Point → HeightLookup → Type 0
-IsLookup b l p r = heightLookupOf r ≡ heightLookup (gridOf b l) p
+IsLookup b l p r = heightLookupOf r ≡ sourceOf (gridOf b l) .height p
 
 -- The answer is the way out of the fix.
 abbrev pub IsOut : List ℕ → Layout → Fix → Answer → Type 0
 IsOut b l f r = answerOf r ≡ convertOver way.Out (sourceOf (gridOf b l)) (f .point) (f .height)
 
--- The quasi-geoid height at any point over any image: questions 1 to 6, then 8, then the lookup, which puts question 9.
+-- The quasi-geoid height at any point over any image: questions 1 to 6, then 8, then the lookup, which puts question 9, in edition 2 after
+-- 15.
 unfoldable pub quasiGeoidHeight : List ℕ → Point → Outcome ℤ
 quasiGeoidHeight b q =
     andThen (opening b) (λ l.

@@ -4,17 +4,16 @@
 // kit covers, on the slice and the layout. An enum cannot hold a reference, so opening does not answer the record: the caller matches
 // `image::open` and makes the record of the layout found, as `way_out` does.
 use geometry::in_bounds;
-use image::layout_for;
+use image::layout_of;
 use image::open;
-use lookup::look_up_height;
 use rules::Answer;
 use rules::HeightLookup;
 use rules::Layout;
-use rules::Nodes;
 use rules::Opened;
 use rules::Point;
 use rules::Refusal;
 use rules::Way;
+use source::look_up_height;
 use ways::convert_over;
 ghost use mathlib.Core.Path.{_≡_};
 ghost use Rattle.rules.specs.Answers.{values};
@@ -22,7 +21,7 @@ ghost use Rattle.rules.specs.Image.{layoutFor};
 ghost use Rattle.rules.specs.Questions.{opening};
 ghost use Rattle.rules.specs.Lookup.{heightLookupOf};
 ghost use Rattle.rules.specs.Ways.{wayOut, answerOf};
-ghost use Rattle.lookup.specs.Held.{OpenAround};
+ghost use Rattle.source.specs.Asked.{OpenAround};
 ghost use Rattle.opened.specs.Over.{Opens, IsLookup, IsOut, quasiGeoidHeight};
 
 // The lent bytes of an image, and the layout of its values.
@@ -88,7 +87,7 @@ pub fn way_out(bytes: &[u8], p: Point, height: i64) -> Answer
     ensures { λ r. ⌜ answerOf r ≡ wayOut (now (bytes .entry)) p height ⌝ }
 {
     match open(bytes) {
-        Opened::Nodes(n) => out_through(bytes, layout_for(n), Fix { point: p, height }),
+        Opened::Separate(s) => out_through(bytes, layout_of(bytes, s), Fix { point: p, height }),
         Opened::Refused(r) => Answer::Refused(r),
     }
 }
@@ -98,17 +97,17 @@ pub fn quasi_geoid_height(bytes: &[u8], q: Point) -> HeightLookup
     ensures { λ r. ⌜ heightLookupOf r ≡ quasiGeoidHeight (now (bytes .entry)) q ⌝ }
 {
     match open(bytes) {
-        Opened::Nodes(n) => height_over_nodes(bytes, n, q),
+        Opened::Separate(s) => height_over_image(bytes, s, q),
         Opened::Refused(r) => HeightLookup::Refused(r),
     }
 }
 
 // The same over an opened image: question 8, then the lookup.
-fn height_over_nodes(bytes: &[u8], n: Nodes, q: Point) -> HeightLookup
-    requires { ⌜ opening (now bytes) ≡ values (layoutFor n) ⌝ }
+fn height_over_image(bytes: &[u8], separate: bool, q: Point) -> HeightLookup
+    requires { ⌜ opening (now bytes) ≡ values (layoutFor (now bytes) separate) ⌝ }
     ensures { λ r. ⌜ heightLookupOf r ≡ quasiGeoidHeight (now (bytes .entry)) q ⌝ }
 {
-    let l = layout_for(n);
+    let l = layout_of(bytes, separate);
     if !in_bounds(l.latitude.geometry, q) {
         return HeightLookup::Refused(Refusal::OutsideBounds);
     }

@@ -23,5 +23,6 @@ pub fn refusal_number(r: Refusal) -> i64
         Refusal::Slope => 12,
         Refusal::BadNotation => 13,
         Refusal::ListLengths => 14,
+        Refusal::OffHeightGrid => 15,
     }
 }

@@ -1,8 +1,8 @@
 -- A grid that passes the check is a steady source: its nodes are all within question 9's limits, so every lookup in the bounds is answered,
 -- and its steps are within question 12's, so every value changes slowly.
-use mathlib.Core.Bool.{true}
+use mathlib.Core.Bool.{Bool, true, false}
 use mathlib.Core.List.{List}
-use mathlib.Core.Path.{_≡_, subst}
+use mathlib.Core.Path.{_≡_, refl, subst}
 use Prim.Native.Nat.{ℕ, _+_, _-_, _≤_, _<_}
 use native.Mathlib.Nat.{le-trans}
 use native.Mathlib.Omega.{arith}
@@ -21,8 +21,9 @@ use Rattle.rules.specs.Units.{correctionLimit, quasiGeoidLimit}
 use Rattle.rules.specs.Answers.{values}
 use Rattle.rules.specs.Image.{Grid, gridOf, rows, columns, farBound}
 use Rattle.rules.specs.Limits.{GeometryPasses, Open}
-use Rattle.rules.specs.Bilinear.{valueAt}
-use Rattle.rules.specs.Lookup.{onAxis, inside, question9, correctionsAt, quasiGeoidAt, correctionLookup, heightLookup}
+use Rattle.rules.specs.Bilinear.{cornersFor, valueAt}
+use Rattle.rules.specs.Lookup.{onAxis, inside, squarePasses, question9, correctionsPass, heightsPass, correctionsAt, quasiGeoidAt}
+use Rattle.rules.specs.Lookup.{correctionLookup, heightLookup, correctionGridLookup, heightGridLookup}
 use Rattle.rules.specs.Ways.{sourceOf}
 use Rattle.rules.specs.Check.{largest, allWithin, allPass, stepNorth, stepEast, stepsOf, slopePasses, question12, findingsOf, check}
 use Rattle.rules.specs.Promise.{Margin}
@@ -90,36 +91,59 @@ passes g f h =
       height = record { limit = all-within quasiGeoidLimit e (g .height) (nodes .2); slope = slopes .2 };
     }
 
--- ---- the grid of an opened image. In edition 1 both geometries are one, so the corrections' cell of a point is its heights' cell.
+-- ---- the grid of an opened image: question 9 has the answer yes in every cell
 module _ {size : ℕ} (b : List ℕ) (l : Layout) (o : Open size l) (c : Passes (gridOf b l)) where
-  -- Question 9 has the answer yes everywhere.
-  cells-pass : (q : Point) → question9 (gridOf b l) q ≡ true
-  unfolding question9
-  cells-pass q =
-      let g = gridOf b l in
-      let k = o .latitude .geometry in
-      let heights = subst (λ (k : Geometry). NodesWithin quasiGeoidLimit k (g .height)) (o .height-geometry) (c .height .limit) in
-      and-both (square-passes _ _ (cell-within (g .latitude) k (c .latitude .limit) q))
-      (and-both (square-passes _ _ (cell-within (g .longitude) k (c .longitude .limit) q))
-      (square-passes _ _ (cell-within (g .height) k heights q)))
+  abbrev grid : Grid
+  grid = gridOf b l
 
-  pub steady : let g = gridOf b l in SteadySource (sourceOf g) (correctionsAt g) (inside (g .heights)) (quasiGeoidAt g)
-  unfolding correctionLookup heightLookup
+  -- of the corrections, and of heights that stand at their nodes or on a separate grid
+  latitudes-pass : (q : Point) → squarePasses correctionLimit (cornersFor (grid .corrections) (grid .latitude) q) ≡ true
+  latitudes-pass q = square-passes _ _ (cell-within (grid .latitude) (o .latitude .geometry) (c .latitude .limit) q)
+
+  longitudes-pass : (q : Point) → squarePasses correctionLimit (cornersFor (grid .corrections) (grid .longitude) q) ≡ true
+  longitudes-pass q = square-passes _ _ (cell-within (grid .longitude) (o .latitude .geometry) (c .longitude .limit) q)
+
+  heights-pass : (q : Point) → squarePasses quasiGeoidLimit (cornersFor (grid .heights) (grid .height) q) ≡ true
+  heights-pass q = square-passes _ _ (cell-within (grid .height) (o .height .geometry) (c .height .limit) q)
+
+  -- In edition 1 both geometries are one, so the corrections' cell of a point is its heights' cell.
+  nodes-pass : l .separate ≡ false → (q : Point) → question9 grid q ≡ true
+  unfolding question9
+  nodes-pass nodes q =
+      let at : Geometry → Type 0 = λ g. squarePasses quasiGeoidLimit (cornersFor g (grid .height) q) ≡ true in
+      and-both (latitudes-pass q) (and-both (longitudes-pass q) (subst at (o .height-geometry nodes) (heights-pass q)))
+
+  corrections-answered : (q : Point) → sourceOf grid .corrections q ≡ values (correctionsAt grid q)
+  unfolding correctionLookup correctionGridLookup correctionsPass
+  corrections-answered q = by (l .separate) refl
+    where
+      by : (separate : Bool) → l .separate ≡ separate → sourceOf grid .corrections q ≡ values (correctionsAt grid q)
+      by false nodes = rw (nodes-pass nodes q, nodes)
+      by true apart = rw (and-both (latitudes-pass q) (longitudes-pass q), apart)
+
+  height-answered : (q : Point) → inside (grid .heights) q ≡ true → sourceOf grid .height q ≡ values (quasiGeoidAt grid q)
+  unfolding heightLookup heightGridLookup heightsPass
+  height-answered q i = by (l .separate) refl
+    where
+      by : (separate : Bool) → l .separate ≡ separate → sourceOf grid .height q ≡ values (quasiGeoidAt grid q)
+      by false nodes = rw (nodes-pass nodes q, nodes)
+      by true apart = rw (i, heights-pass q, apart)
+
+  pub steady : SteadySource (sourceOf grid) (correctionsAt grid) (inside (grid .heights)) (quasiGeoidAt grid)
   steady =
-      let g = gridOf b l in
       let k = o .latitude .geometry in
       record {
         angles = record {
           corrections = record {
-            answered = λ q i. rw (cells-pass q);
-            latitude = steady-value k (g .latitude) (c .latitude);
-            longitude = steady-value k (g .longitude) (c .longitude);
+            answered = λ q i. corrections-answered q;
+            latitude = steady-value k (grid .latitude) (c .latitude);
+            longitude = steady-value k (grid .longitude) (c .longitude);
           };
-          point-within = λ q i. point-within (g .corrections) q k i;
+          point-within = λ q i. point-within (grid .corrections) q k i;
         };
         heights = record {
-          answered = λ q i. rw (cells-pass q);
-          value = steady-value (o .height .geometry) (g .height) (c .height);
+          answered = height-answered;
+          value = steady-value (o .height .geometry) (grid .height) (c .height);
         };
       }
 

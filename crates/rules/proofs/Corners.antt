@@ -9,14 +9,10 @@ use Rattle.rules.specs.declared.Geometry.{Geometry}
 use Rattle.rules.specs.declared.Point.{Point}
 use Rattle.rules.specs.declared.Square.{Square}
 use Rattle.rules.specs.Limits.{GeometryPasses, CornersWithin}
-use Rattle.rules.specs.Bilinear.{cellFor, corners}
+use Rattle.rules.specs.Bilinear.{cornersFor}
 use Rattle.rules.specs.Lookup.{squarePasses}
 use Rattle.rules.proofs.Cells.{at-corners}
 use Rattle.rules.proofs.Slopes.{NodesWithin}
-
--- The corners of a point's cell.
-abbrev pub cornersFor : Geometry → (ℕ → ℕ → ℤ) → Point → Square
-cornersFor g f p = corners f (cellFor (g .latitude) (p .latitude)) (cellFor (g .longitude) (p .longitude))
 
 pub cell-within : {limit : ℕ} {g : Geometry} (f : ℕ → ℕ → ℤ) → GeometryPasses g → NodesWithin limit g f → (p : Point)
     → CornersWithin limit (cornersFor g f p)

@@ -10,8 +10,8 @@ use Rattle.integers.specs.Rounding.{roundHalfUp}
 use Rattle.rules.specs.declared.Steps.{Steps}
 use Rattle.rules.specs.declared.Notation.{Notation}
 use Rattle.rules.specs.Answers.{values, number}
-use Rattle.rules.specs.Image.{u64At, i32At, i64At, trailerOf, plane}
-use Rattle.rules.specs.Questions.{question3, question4, boundsWithin, question5, question6, judge, opening}
+use Rattle.rules.specs.Image.{u64At, i32At, i64At, trailerOf, editionOf, plane}
+use Rattle.rules.specs.Questions.{question3, question4, boundsWithin, question5, backPasses, question6, judge, opening}
 use Rattle.rules.specs.Bilinear.{cellOf, partOf, weighted, bilinear, valueAt}
 use Rattle.rules.specs.Lookup.{onAxis, inside, squarePasses, question9, correctionLookup, heightLookup}
 use Rattle.rules.specs.Ways.{question7, plus, minus, position, back, settled, iterate, out, convertOver, convert, wayBack, wayOut}
@@ -47,7 +47,7 @@ doubling = variant (λ row column. pos 400 -ℤ pos (2000 * row)) (λ row column
 
 pub record Order : Type 0 where
   pub length-first : opening (drop 109 gridG) ≡ number 1
-  pub edition-before-counts : opening (oneRow (set gridG 144 2)) ≡ number 2
+  pub edition-before-counts : opening (oneRow (set gridG 144 3)) ≡ number 2
   pub counts-before-spacings : opening (noSpacing (oneRow gridG)) ≡ number 3
   pub spacings-before-bounds : opening (farSouth (noSpacing gridG)) ≡ number 4
   pub bounds-before-bytes : opening (otherBack (farSouth gridG)) ≡ number 5
@@ -134,7 +134,8 @@ pub record Examples : Type 0 where
   pub west-written : writeNotation true (negℤ (pos 25)) ≡ values (angle 0 0 9 87)
 
 pub examples : Order × Examples
-unfolding gridG roundHalfUp u64At i32At i64At trailerOf plane question3 question4 boundsWithin question5 question6 judge opening cellOf
+unfolding gridG roundHalfUp u64At i32At i64At trailerOf editionOf plane question3 question4 boundsWithin question5 backPasses question6
+    judge opening cellOf
     partOf weighted bilinear valueAt onAxis inside squarePasses question9 correctionLookup heightLookup question7 plus minus back settled
     iterate out convertOver convert every largest allWithin allPass stepNorth stepEast stepsOf slopePasses question12 findingsOf check
     gridCheck question14 convertList total readable magnitudeRead readNotation totalWritten split writeNotation

@@ -1,5 +1,6 @@
 -- Laws about the rules, for the crates above.
 pub mod Examples
+pub mod HeightGrid
 pub mod Answers
 pub mod Opening
 pub mod Cells

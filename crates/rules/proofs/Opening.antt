@@ -1,24 +1,27 @@
--- What questions 1 to 6 establish: each question before the layout was answered yes.
-use mathlib.Core.Bool.{true}
+-- What questions 1 to 6 establish, in both editions: each question before the layout was answered yes.
+use mathlib.Core.Bool.{true, false}
 use mathlib.Core.List.{List}
-use mathlib.Core.Path.{_≡_, refl, subst}
+use mathlib.Core.Path.{_≡_, refl, ap, subst, _∙_}
 use Prim.Native.Nat.{ℕ, _+_, _-_, _*_, _≤_}
-use native.Mathlib.Nat.{mul-le-mul, mul-le-mul-right}
+use native.Mathlib.Nat.{mul-le-mul, mul-le-mul-left, mul-le-mul-right}
 use native.Mathlib.Omega.{arith}
 use lib.Dec.{leb, eqb}
 use lib.ListN.{length}
 use borrow.Author.Tests.{leb-true, eqb-true}
-use Rattle.integers.specs.Booleans.{and-left, and-right}
+use Rattle.integers.specs.Booleans.{and-left, and-right, branched}
 use Rattle.rules.specs.declared.Axis.{Axis}
 use Rattle.rules.specs.declared.Geometry.{Geometry}
 use Rattle.rules.specs.declared.Trailer.{Trailer}
+use Rattle.rules.specs.declared.TwoGridTrailer.{TwoGridTrailer}
+use Rattle.rules.specs.declared.Plane.{Plane}
 use Rattle.rules.specs.declared.Layout.{Layout}
-use Rattle.rules.specs.declared.Nodes.{Nodes}
 use Rattle.rules.specs.Units.{latitudeLimit, countMost, spacingMost, between, within}
 use Rattle.rules.specs.Answers.{values}
-use Rattle.rules.specs.Image.{trailerOf, farBound, rows, columns, backOf, layoutFor, layoutOf}
+use Rattle.rules.specs.Image.{trailerOf, editionOf, twoGridTrailerOf, farBound, rows, columns}
+use Rattle.rules.specs.Image.{backOf, heightBackOf, correctionBackOf, layoutOf, twoGridLayoutOf, layoutFor}
 use Rattle.rules.proofs.Answers.{asked}
-use Rattle.rules.specs.Questions.{question1, question2, question3, question4, boundsWithin, question5, question6, judge, opening}
+use Rattle.rules.specs.Questions.{question1, question2, question3, question4, boundsWithin, question5, backPasses, question6, judge}
+use Rattle.rules.specs.Questions.{lengthOfTwo, kindKnown, ofBoth, backsPass, judgeTwo, openingTwo, opening}
 use Rattle.rules.specs.Limits.{Sized, AxisPasses, GeometryPasses, InImage, Open}
 
 between-low : (low high n : ℕ) → between low high n ≡ true → low ≤ n
@@ -46,16 +49,16 @@ unfolding question3 question4
 longitude-sized g h k =
     axis (g .longitude) (and-right (between 2 countMost (rows g)) _ h) (and-right (between 1 spacingMost (g .latitude .spacing)) _ k)
 
--- After question 3 there are at most 4,096 rows, and the nodes are at most 4,096 times 4,096.
+-- After question 3 there are at most 4,096 rows and columns, so at most 4,096 × 4,096 nodes.
 pub rows-most : (g : Geometry) → question3 g ≡ true → rows g ≤ countMost
 unfolding question3
 rows-most g h = between-high 2 countMost (rows g) (and-left _ _ h)
 
-pub nodes-most : (g : Geometry) → question3 g ≡ true → 12 * rows g * columns g ≤ 12 * countMost * countMost
+pub nodes-most : (g : Geometry) → question3 g ≡ true → rows g * columns g ≤ countMost * countMost
 unfolding question3
 nodes-most g h =
     let columns-most = between-high 2 countMost (columns g) (and-right (between 2 countMost (rows g)) _ h) in
-    mul-le-mul {n₂ = 12 * countMost} {m₂ = countMost} (omega (arith, rows-most g h)) columns-most
+    mul-le-mul {n₂ = countMost} {m₂ = countMost} (rows-most g h) columns-most
 
 bounds : (limit : ℕ) (a : Axis) → Sized a → boundsWithin limit a ≡ true → AxisPasses limit a
 unfolding boundsWithin
@@ -75,35 +78,76 @@ geometry-passes g h3 h4 h5 =
       longitude = bounds _ (g .longitude) (longitude-sized g h3 h4) (and-right (boundsWithin latitudeLimit (g .latitude)) _ h5);
     }
 
--- The value that begins k bytes into each node lies in the image.
-in-nodes : (size k : ℕ) (g : Geometry) → GeometryPasses g → backOf g ≤ size → k + 4 ≤ 12
-    → InImage size (record { geometry = g; first = size - backOf g + k; stride = 12 })
-in-nodes size k g passes h l =
+-- The value that begins k bytes into each node lies in the image, where all nodes do.
+in-nodes : (size first k width : ℕ) (g : Geometry) → GeometryPasses g → first + width * (rows g * columns g) ≤ size → k + 4 ≤ width
+    → InImage size (record { geometry = g; first = first + k; stride = width })
+in-nodes size first k width g passes h l =
     record {
       geometry = passes;
-      bytes = λ row column i j. omega (arith, mul-le-mul-right {m = row + 1} {n = rows g} (columns g) (omega arith));
+      bytes = λ row column i j.
+          let before = mul-le-mul-right {m = row + 1} {n = rows g} (columns g) (omega arith) in
+          let nodes : row * columns g + column + 1 ≤ rows g * columns g = omega (arith, before) in
+          omega (arith, mul-le-mul-left width nodes);
     }
+
+-- The same of the value with which a node begins.
+at-nodes : (size first width : ℕ) (g : Geometry) → GeometryPasses g → first + width * (rows g * columns g) ≤ size → 4 ≤ width
+    → InImage size (record { geometry = g; first = first; stride = width })
+at-nodes size first width g passes h l =
+    let zero : first + 0 ≡ first = omega arith in
+    rw zero at (in-nodes size first 0 width g passes h (omega arith))
 
 laid : (size : ℕ) (g : Geometry) → GeometryPasses g → backOf g ≤ size → Open size (layoutOf size g)
 laid size g passes h =
-    let zero : size - backOf g + 0 ≡ size - backOf g = omega arith in
+    let first = size - backOf g in
+    let nodes : first + 12 * (rows g * columns g) ≤ size = omega arith in
     record {
-      latitude = rw zero at (in-nodes size 0 g passes h (omega arith));
-      longitude = in-nodes size 4 g passes h (omega arith);
-      height = in-nodes size 8 g passes h (omega arith);
+      latitude = at-nodes size first 12 g passes nodes (omega arith);
+      longitude = in-nodes size first 4 12 g passes nodes (omega arith);
+      height = in-nodes size first 8 12 g passes nodes (omega arith);
       longitude-geometry = refl;
-      height-geometry = refl;
+      height-geometry = λ one. refl;
+    }
+
+laid-two : (size : ℕ) (c h : Geometry) → GeometryPasses c → GeometryPasses h → correctionBackOf c h ≤ size
+    → Open size (twoGridLayoutOf size c h)
+laid-two size c h c-passes h-passes l =
+    let first = size - correctionBackOf c h in
+    let nodes : first + 8 * (rows c * columns c) ≤ size = omega arith in
+    let heights : size - heightBackOf h + 4 * (rows h * columns h) ≤ size = omega arith in
+    record {
+      latitude = at-nodes size first 8 c c-passes nodes (omega arith);
+      longitude = in-nodes size first 4 8 c c-passes nodes (omega arith);
+      height = at-nodes size (size - heightBackOf h) 4 h h-passes heights (omega arith);
+      longitude-geometry = refl;
+      height-geometry = λ one. let z : _≡_ {A = ℕ} 0 1 = cc in absurd (omega arith);
     }
 
 -- What question 6 says of back.
-pub back-is : (t : Trailer) (size : ℕ) → question6 t size ≡ true → (t .back ≡ backOf (t .geometry)) × (t .back ≤ size)
-unfolding question6
-back-is t size h =
-    let equal = eqb (t .back) (backOf (t .geometry)) in
-    (eqb-true _ _ (and-left equal (leb (t .back) size) h), leb-true _ _ (and-right equal (leb (t .back) size) h))
+pub back-is : (back wanted size : ℕ) → backPasses back wanted size ≡ true → (back ≡ wanted) × (back ≤ size)
+unfolding backPasses
+back-is back wanted size h =
+    (eqb-true _ _ (and-left (eqb back wanted) (leb back size) h), leb-true _ _ (and-right (eqb back wanted) (leb back size) h))
 
-judged : (t : Trailer) (size : ℕ) (l : Layout) → judge t size ≡ values l → Open size l
-unfolding judge
+-- And in edition 2 of both backs.
+pub backs-are : (t : TwoGridTrailer) (size : ℕ) → backsPass t size ≡ true
+    → let c = t .corrections in
+    let h = t .heights in
+    ((c .back ≡ correctionBackOf (c .geometry) (h .geometry)) × (c .back ≤ size))
+    × ((h .back ≡ heightBackOf (h .geometry)) × (h .back ≤ size))
+unfolding backsPass
+backs-are t size h =
+    let first = backPasses (t .corrections .back) (correctionBackOf (t .corrections .geometry) (t .heights .geometry)) size in
+    (back-is _ _ size (and-left first _ h), back-is _ _ size (and-right first _ h))
+
+-- An edition 1 image that opens: its layout, and question 6 answered yes.
+pub record OpenedOne (t : Trailer) (size : ℕ) (l : Layout) : Type 0 where
+  pub is-open : Open size l
+  pub layout : layoutOf size (t .geometry) ≡ l
+  pub bytes : question6 t size ≡ true
+
+judged : (t : Trailer) (size : ℕ) (l : Layout) → judge t size ≡ values l → OpenedOne t size l
+unfolding judge question6
 judged t size l h =
     let g = t .geometry in
     let h2 = asked (question2 t) 2 _ l h in
@@ -112,15 +156,66 @@ judged t size l h =
     let h5 = asked (question5 g) 5 _ l (h4 .1) in
     let h6 = asked (question6 t size) 6 _ l (h5 .1) in
     let e : layoutOf size g ≡ l = cc in
-    subst (Open size) e (laid size g (geometry-passes g (h3 .0) (h4 .0) (h5 .0)) (omega (arith, back-is t size (h6 .0))))
+    let o = laid size g (geometry-passes g (h3 .0) (h4 .0) (h5 .0)) (omega (arith, back-is _ _ size (h6 .0))) in
+    record { is-open = subst (Open size) e o; layout = e; bytes = h6 .0 }
+
+-- What questions 3 to 5 establish of both grids.
+pub both-pass : (t : TwoGridTrailer) → ofBoth question3 t ≡ true → ofBoth question4 t ≡ true → ofBoth question5 t ≡ true
+    → GeometryPasses (t .corrections .geometry) × GeometryPasses (t .heights .geometry)
+both-pass t h3 h4 h5 =
+    let c = t .corrections .geometry in
+    let h = t .heights .geometry in (
+      geometry-passes c (and-left (question3 c) _ h3) (and-left (question4 c) _ h4) (and-left (question5 c) _ h5),
+      geometry-passes h (and-right (question3 c) _ h3) (and-right (question4 c) _ h4) (and-right (question5 c) _ h5),
+    )
+
+-- An edition 2 image that opens.
+pub record OpenedTwo (t : TwoGridTrailer) (size : ℕ) (l : Layout) : Type 0 where
+  pub is-open : Open size l
+  pub layout : twoGridLayoutOf size (t .corrections .geometry) (t .heights .geometry) ≡ l
+  pub bytes : backsPass t size ≡ true
+
+judged-two : (t : TwoGridTrailer) (size : ℕ) (l : Layout) → judgeTwo t size ≡ values l → OpenedTwo t size l
+unfolding judgeTwo
+judged-two t size l k =
+    let c = t .corrections .geometry in
+    let h = t .heights .geometry in
+    let h2 = asked (kindKnown t) 2 _ l k in
+    let h3 = asked (ofBoth question3 t) 3 _ l (h2 .1) in
+    let h4 = asked (ofBoth question4 t) 4 _ l (h3 .1) in
+    let h5 = asked (ofBoth question5 t) 5 _ l (h4 .1) in
+    let h6 = asked (backsPass t size) 6 _ l (h5 .1) in
+    let e : twoGridLayoutOf size c h ≡ l = cc in
+    let both = both-pass t (h3 .0) (h4 .0) (h5 .0) in
+    let o = laid-two size c h (both .0) (both .1) (omega (arith, backs-are t size (h6 .0) .0)) in
+    record { is-open = subst (Open size) e o; layout = e; bytes = h6 .0 }
+
+-- An image that opens is of edition 1 or of edition 2; by its layout's flag it is known which.
+by-edition : {G : Type 0} (b : List ℕ) (l : Layout) → opening b ≡ values l
+    → (40 ≤ length b → OpenedOne (trailerOf b) (length b) l → G) → (80 ≤ length b → OpenedTwo (twoGridTrailerOf b) (length b) l → G) → G
+unfolding opening openingTwo
+by-edition b l h one two =
+    let k = asked (question1 (length b)) 1 _ l h in
+    branched (eqb (editionOf b) 2) _ _ _ (k .1)
+    (λ second e.
+    let t = asked (lengthOfTwo (length b)) 1 _ l e in
+    two (leb-true 80 (length b) (t .0)) (judged-two (twoGridTrailerOf b) (length b) l (t .1)))
+    (λ first e. one (leb-true 40 (length b) (k .0)) (judged (trailerOf b) (length b) l e))
 
 pub opened : (b : List ℕ) (l : Layout) → opening b ≡ values l → Open (length b) l
-unfolding opening
-opened b l h = judged (trailerOf b) (length b) l (asked (question1 (length b)) 1 _ l h .1)
+opened b l h = by-edition b l h (λ _ o. o .is-open) (λ _ o. o .is-open)
 
--- The first node begins in the image.
-pub first-node : (b : List ℕ) (n : Nodes) → opening b ≡ values (layoutFor n) → n .first + 12 ≤ length b
-first-node b n h =
-    let o = opened b (layoutFor n) h .height in
-    let sized = o .geometry in
-    omega (arith, o .bytes 0 0 (omega (arith, sized .latitude .sized .count-least)) (omega (arith, sized .longitude .sized .count-least)))
+-- What the functions that read the layout ask of an image that opened.
+pub opened-one : (b : List ℕ) (l : Layout) → opening b ≡ values l → l .separate ≡ false
+    → (40 ≤ length b) × (question6 (trailerOf b) (length b) ≡ true)
+opened-one b l h e =
+    by-edition b l h (λ enough o. (enough, o .bytes)) (λ _ o.
+    let f : true ≡ false = ap (λ (l : Layout). l .separate) (o .layout) ∙ e in
+    let z : _≡_ {A = ℕ} 0 1 = cc in absurd (omega arith))
+
+pub opened-two : (b : List ℕ) (l : Layout) → opening b ≡ values l → l .separate ≡ true
+    → (80 ≤ length b) × (backsPass (twoGridTrailerOf b) (length b) ≡ true)
+opened-two b l h e =
+    by-edition b l h (λ _ o.
+    let f : false ≡ true = ap (λ (l : Layout). l .separate) (o .layout) ∙ e in
+    let z : _≡_ {A = ℕ} 0 1 = cc in absurd (omega arith)) (λ enough o. (enough, o .bytes))

@@ -7,7 +7,7 @@ use lib.IntN.{ℤ, pos}
 use Rattle.rules.specs.declared.Refusal.{Refusal}
 use Rattle.rules.specs.declared.Refusal.the-variants.{ImageLength, Edition, NodeCount, Spacing, GridBounds, NodeBytes}
 use Rattle.rules.specs.declared.Refusal.the-variants.{FixLimits, OutsideBounds, NodeLimits, IterateOutside, NotSettled}
-use Rattle.rules.specs.declared.Refusal.the-variants.{Slope, BadNotation, ListLengths}
+use Rattle.rules.specs.declared.Refusal.the-variants.{Slope, BadNotation, ListLengths, OffHeightGrid}
 
 -- Values, or the number of the question whose answer was no.
 pub data Outcome (A : Type 0) : Type 0 where
@@ -40,6 +40,7 @@ numberOf NotSettled = 11
 numberOf Slope = 12
 numberOf BadNotation = 13
 numberOf ListLengths = 14
+numberOf OffHeightGrid = 15
 
 -- What a call gives: 0 with values, else the number.
 abbrev pub statusOf : {A : Type 0} → Outcome A → ℤ

@@ -50,6 +50,10 @@ corners f row column =
       northeast = f (row + 1) (column + 1);
     }
 
+-- The corners of a point's cell.
+abbrev pub cornersFor : Geometry → (ℕ → ℕ → ℤ) → Point → Square
+cornersFor g f p = corners f (cellFor (g .latitude) (p .latitude)) (cellFor (g .longitude) (p .longitude))
+
 -- The sum of corner times weight: u and v are the point's distance from the cell's south and west side, P and Q the latitude and longitude
 -- spacing.
 unfoldable pub weighted : Square → (u v P Q : ℕ) → ℤ

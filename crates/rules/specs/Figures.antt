@@ -9,8 +9,8 @@ use Rattle.rules.specs.declared.Point.{Point}
 use Rattle.rules.specs.declared.Correction.{Correction}
 use Rattle.rules.specs.declared.Notation.{Notation}
 use Rattle.rules.specs.Answers.{Outcome, values, number, andThen}
-use Rattle.rules.specs.Image.{u64At, i32At, i64At, trailerOf, plane, gridOf}
-use Rattle.rules.specs.Questions.{question3, question4, boundsWithin, question5, question6, judge, opening}
+use Rattle.rules.specs.Image.{u64At, i32At, i64At, trailerOf, editionOf, plane, gridOf}
+use Rattle.rules.specs.Questions.{question3, question4, boundsWithin, question5, backPasses, question6, judge, opening}
 use Rattle.rules.specs.Bilinear.{cellOf, partOf, weighted, bilinear, valueAt}
 use Rattle.rules.specs.Lookup.{onAxis, inside, squarePasses, question9, correctionLookup, heightLookup}
 use Rattle.rules.specs.Ways.{question7, plus, minus, position, back, settled, iterate, out, convertOver, convert, wayBack, wayOut}
@@ -109,7 +109,8 @@ pub record Figures : Type 0 where
   pub written-below : writeNotation false (pos 16666665) ≡ values (record { degrees = 0; minutes = 0; fraction = 5999999; letter = 78 })
 
 pub figures : Figures
-unfolding gridG roundHalfUp u64At i32At i64At trailerOf plane question3 question4 boundsWithin question5 question6 judge opening cellOf
+unfolding gridG roundHalfUp u64At i32At i64At trailerOf editionOf plane question3 question4 boundsWithin question5 backPasses question6
+    judge opening cellOf
     partOf weighted bilinear valueAt onAxis inside squarePasses question9 correctionLookup heightLookup question7 plus minus back settled
     iterate out convertOver convert every largest allWithin allPass stepNorth stepEast stepsOf slopePasses question12 findingsOf check
     gridCheck total readable magnitudeRead readNotation totalWritten split writeNotation

@@ -1,5 +1,6 @@
--- Document 01, "Units and the image": little-endian numbers, the trailer, the geometry and its bounds, where the values lie, the grid.
-use mathlib.Core.Bool.{cond}
+-- Document 01, "Units and the image", and note 1 of document 02: little-endian numbers, the trailers of both editions, the geometry and its
+-- bounds, where the values lie, the grid.
+use mathlib.Core.Bool.{Bool, true, false, cond}
 use mathlib.Core.List.{List}
 use Prim.Native.Nat.{ℕ, _+_, _-_, _*_}
 use lib.Dec.{ltb}
@@ -8,9 +9,9 @@ use lib.ListN.{length, getD}
 use Rattle.rules.specs.declared.Axis.{Axis}
 use Rattle.rules.specs.declared.Geometry.{Geometry}
 use Rattle.rules.specs.declared.Trailer.{Trailer}
+use Rattle.rules.specs.declared.TwoGridTrailer.{TwoGridTrailer}
 use Rattle.rules.specs.declared.Plane.{Plane}
 use Rattle.rules.specs.declared.Layout.{Layout}
-use Rattle.rules.specs.declared.Nodes.{Nodes}
 
 -- The unsigned numbers of four and of eight bytes, the lowest byte first, that begin at byte `at`.
 abbrev pub u32At : List ℕ → ℕ → ℕ
@@ -30,18 +31,34 @@ i32At b at = twosComplement 2147483648 (u32At b at)
 unfoldable pub i64At : List ℕ → ℕ → ℤ
 i64At b at = twosComplement 9223372036854775808 (u64At b at)
 
--- The trailer, the last 40 bytes: southern latitude at 0, western longitude at 8, latitude spacing at 16, longitude spacing at 20, rows at
--- 24, columns at 28, back at 32, edition at 36.
+-- The 32 bytes of a geometry: southern latitude at 0, western longitude at 8, latitude spacing at 16, longitude spacing at 20, rows at 24,
+-- columns at 28.
+abbrev pub geometryAt : List ℕ → ℕ → Geometry
+geometryAt b at =
+    record {
+      latitude = record { start = i64At b at; spacing = u32At b (at + 16); count = u32At b (at + 24) };
+      longitude = record { start = i64At b (at + 8); spacing = u32At b (at + 20); count = u32At b (at + 28) };
+    }
+
+-- Edition 1's trailer, the last 40 bytes: the geometry, back at 32, edition at 36.
 unfoldable pub trailerOf : List ℕ → Trailer
 trailerOf b =
     let at = length b - 40 in
+    record { geometry = geometryAt b at; back = u32At b (at + 32); edition = u32At b (at + 36) }
+
+-- The edition is the last number in both editions.
+unfoldable pub editionOf : List ℕ → ℕ
+editionOf b = u32At b (length b - 4)
+
+-- Edition 2's trailer, the last 80 bytes: the geometry of the corrections at 0 and that of the heights at 32, back to the correction nodes
+-- at 64 and to the height nodes at 68, kind at 72, edition at 76.
+unfoldable pub twoGridTrailerOf : List ℕ → TwoGridTrailer
+twoGridTrailerOf b =
+    let at = length b - 80 in
     record {
-      geometry = record {
-        latitude = record { start = i64At b at; spacing = u32At b (at + 16); count = u32At b (at + 24) };
-        longitude = record { start = i64At b (at + 8); spacing = u32At b (at + 20); count = u32At b (at + 28) };
-      };
-      back = u32At b (at + 32);
-      edition = u32At b (at + 36);
+      corrections = record { geometry = geometryAt b at; back = u32At b (at + 64) };
+      heights = record { geometry = geometryAt b (at + 32); back = u32At b (at + 68) };
+      kind = u32At b (at + 72);
     }
 
 -- The far bound of an axis, the northern or the eastern one: its start plus (count − 1) spacings.
@@ -66,26 +83,45 @@ rows g = g .latitude .count
 abbrev pub columns : Geometry → ℕ
 columns g = g .longitude .count
 
--- The bytes from the image's end back to the first node: nodes of 12 bytes, then the trailer of 40.
+-- Edition 1: the bytes from the image's end back to the first node: nodes of 12 bytes, then the trailer of 40.
 abbrev pub backOf : Geometry → ℕ
 backOf g = 12 * rows g * columns g + 40
 
--- The layout of nodes of 12 bytes from byte `first` on: a node is latitude correction, longitude correction and quasi-geoid height, of four
--- bytes each.
-abbrev pub nodesFrom : (first : ℕ) → Geometry → Layout
-nodesFrom first g =
+-- Edition 2: correction nodes of 8 bytes, then height nodes of 4 bytes, then the trailer of 80.
+abbrev pub heightBackOf : (heights : Geometry) → ℕ
+heightBackOf h = 4 * rows h * columns h + 80
+
+abbrev pub correctionBackOf : (corrections heights : Geometry) → ℕ
+correctionBackOf c h = 8 * rows c * columns c + heightBackOf h
+
+-- Edition 1's layout, of an image of `size` bytes: a node is latitude correction, longitude correction and quasi-geoid height, of four
+-- bytes each, and the last node ends where the trailer begins.
+abbrev pub layoutOf : (size : ℕ) → Geometry → Layout
+layoutOf size g =
+    let first = size - backOf g in
     record {
+      separate = false;
       latitude = record { geometry = g; first = first; stride = 12 };
       longitude = record { geometry = g; first = first + 4; stride = 12 };
       height = record { geometry = g; first = first + 8; stride = 12 };
     }
 
-abbrev pub layoutFor : Nodes → Layout
-layoutFor n = nodesFrom (n .first) (n .geometry)
+-- Edition 2's: a correction node is latitude correction and longitude correction, a height node the height; correction nodes, height nodes
+-- and trailer touch each other.
+abbrev pub twoGridLayoutOf : (size : ℕ) → (corrections heights : Geometry) → Layout
+twoGridLayoutOf size c h =
+    let first = size - correctionBackOf c h in
+    record {
+      separate = true;
+      latitude = record { geometry = c; first = first; stride = 8 };
+      longitude = record { geometry = c; first = first + 4; stride = 8 };
+      height = record { geometry = h; first = size - heightBackOf h; stride = 4 };
+    }
 
--- The layout of an image of `size` bytes: the last node ends where the trailer begins.
-abbrev pub layoutOf : (size : ℕ) → Geometry → Layout
-layoutOf size g = nodesFrom (size - backOf g) g
+-- The layout that an opened image has by its trailer, where its heights stand on a separate grid and where they do not.
+abbrev pub layoutFor : List ℕ → (separate : Bool) → Layout
+layoutFor b true = let t = twoGridTrailerOf b in twoGridLayoutOf (length b) (t .corrections .geometry) (t .heights .geometry)
+layoutFor b false = layoutOf (length b) (trailerOf b .geometry)
 
 -- The values of a plane, by row and column.
 unfoldable pub plane : List ℕ → Plane → ℕ → ℕ → ℤ
@@ -93,8 +129,9 @@ plane b p row column = i32At b (p .first + p .stride * (row * columns (p .geomet
 
 -- A grid, the content of an image: the geometry of the corrections and that of the quasi-geoid heights, and by row and column the latitude
 -- correction, the longitude correction and the height. Row 0 is the southern one, column 0 the western. In edition 1 both geometries are
--- the trailer's.
+-- the trailer's one; in edition 2 the heights stand on a separate grid.
 pub record Grid : Type 0 where
+  pub separate : Bool
   pub corrections : Geometry
   pub heights : Geometry
   pub latitude : ℕ → ℕ → ℤ
@@ -105,6 +142,7 @@ pub record Grid : Type 0 where
 abbrev pub gridOf : List ℕ → Layout → Grid
 gridOf b l =
     record {
+      separate = l .separate;
       corrections = l .latitude .geometry;
       heights = l .height .geometry;
       latitude = plane b (l .latitude);

@@ -1,5 +1,6 @@
--- Document 01 as definitions: what a reader must believe, but for Limits.antt, which is proved. Each file names the section that it says; a
--- definition stands after those that it uses. Two more to believe are `floorDiv` and `roundHalfUp` (crates/integers/specs/Rounding.antt).
+-- Documents 01 and 02 as definitions: what a reader must believe, but for Limits.antt, which is proved. Each file names the section or the
+-- note that it says; a definition stands after those that it uses. Two more to believe are `floorDiv` and `roundHalfUp`
+-- (crates/integers/specs/Rounding.antt).
 --
 -- How to read them. A definition's first line says what it takes and gives, the next ones say what it is; several are cases, of which the
 -- first that fits holds. One with fewer names than its first line takes is the function of the rest. `declared.T` is type T of

@@ -1,5 +1,6 @@
 -- What the questions establish, as inequalities: what functions below the entry points require of their callers. That they follow from the
 -- questions' answers is proved (../proofs/Opening.antt, Limits.antt and Cells.antt there), so a reader need not believe them.
+use mathlib.Core.Bool.{false}
 use mathlib.Core.Path.{_≡_}
 use Prim.Native.Nat.{ℕ, _+_, _*_, _≤_, _<_}
 use lib.IntN.{natAbs}
@@ -38,13 +39,14 @@ pub record InImage (size : ℕ) (p : Plane) : Type 0 where
   pub bytes : (row column : ℕ) → row < rows (p .geometry) → column < columns (p .geometry)
       → p .first + p .stride * (row * columns (p .geometry) + column) + 4 ≤ size
 
--- And of a layout: each plane is in the image, and all have one geometry.
+-- And of a layout: each plane is in the image, both planes of corrections have one geometry, and so has that of the heights where
+-- these are not on a separate grid.
 pub record Open (size : ℕ) (l : Layout) : Type 0 where
   pub latitude : InImage size (l .latitude)
   pub longitude : InImage size (l .longitude)
   pub height : InImage size (l .height)
   pub longitude-geometry : l .longitude .geometry ≡ l .latitude .geometry
-  pub height-geometry : l .height .geometry ≡ l .latitude .geometry
+  pub height-geometry : l .separate ≡ false → l .height .geometry ≡ l .latitude .geometry
 
 -- What question 7 establishes of a point, and question 8 too where the geometry passes.
 pub record PointWithin (p : Point) : Type 0 where

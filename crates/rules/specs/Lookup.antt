@@ -1,4 +1,5 @@
--- Document 01, "Questions in order": the bounds of questions 8 and 10, question 9, and the lookups of the values at a point in the bounds.
+-- Document 01, "Questions in order": the bounds of questions 8 and 10, question 9, and the lookups of the values at a point in the bounds;
+-- and note 1 of document 02: question 15, and the lookups on two grids.
 use mathlib.Core.Bool.{Bool, _&&_}
 use Prim.Native.Nat.{ℕ}
 use lib.IntN.{ℤ}
@@ -13,7 +14,7 @@ use Rattle.rules.specs.declared.HeightLookup.the-variants as found
 use Rattle.rules.specs.Units.{within, correctionLimit, quasiGeoidLimit}
 use Rattle.rules.specs.Answers.{Outcome, values, number, ask, numberOf}
 use Rattle.rules.specs.Image.{Grid, farBound}
-use Rattle.rules.specs.Bilinear.{cellFor, corners, valueAt}
+use Rattle.rules.specs.Bilinear.{cellFor, corners, cornersFor, valueAt}
 
 -- An angle from an axis's start to its far bound, both included.
 unfoldable pub onAxis : Axis → ℤ → Bool
@@ -44,12 +45,30 @@ correctionsAt g p = record { latitude = valueAt (g .corrections) (g .latitude) p
 abbrev pub quasiGeoidAt : Grid → Point → ℤ
 quasiGeoidAt g p = valueAt (g .heights) (g .height) p
 
--- The lookup of each: question 9 for the point's cell, then the value.
+-- The lookup of each in edition 1: question 9 for the point's cell, then the value.
 unfoldable pub correctionLookup : Grid → Point → Outcome Correction
 correctionLookup g p = ask (question9 g p) 9 (values (correctionsAt g p))
 
 unfoldable pub heightLookup : Grid → Point → Outcome ℤ
 heightLookup g p = ask (question9 g p) 9 (values (quasiGeoidAt g p))
+
+-- Edition 2: 9 asks the point's cell on the correction grid for corrections,
+unfoldable pub correctionsPass : Grid → Point → Bool
+correctionsPass g p =
+    squarePasses correctionLimit (cornersFor (g .corrections) (g .latitude) p)
+    && squarePasses correctionLimit (cornersFor (g .corrections) (g .longitude) p)
+
+-- and its cell on the height grid for heights.
+unfoldable pub heightsPass : Grid → Point → Bool
+heightsPass g p = squarePasses quasiGeoidLimit (cornersFor (g .heights) (g .height) p)
+
+-- The lookup on the correction grid.
+unfoldable pub correctionGridLookup : Grid → Point → Outcome Correction
+correctionGridLookup g p = ask (correctionsPass g p) 9 (values (correctionsAt g p))
+
+-- 15. Is the Bessel point on the height grid, its bounds included? Then question 9, then the height.
+unfoldable pub heightGridLookup : Grid → Point → Outcome ℤ
+heightGridLookup g q = ask (inside (g .heights) q) 15 (ask (heightsPass g q) 9 (values (quasiGeoidAt g q)))
 
 -- The code's answer, in these terms.
 abbrev pub heightLookupOf : HeightLookup → Outcome ℤ

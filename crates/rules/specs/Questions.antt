@@ -1,5 +1,6 @@
--- Document 01, "Questions in order": questions 1 to 6, which every call that takes an image puts first.
-use mathlib.Core.Bool.{Bool, _&&_}
+-- Document 01, "Questions in order": questions 1 to 6, which every call that takes an image puts first; and note 1 of document 02, which
+-- puts them to both grids of edition 2, the correction grid first in each.
+use mathlib.Core.Bool.{Bool, cond, _&&_}
 use mathlib.Core.List.{List}
 use Prim.Native.Nat.{ℕ}
 use lib.Dec.{leb, eqb}
@@ -7,12 +8,14 @@ use lib.ListN.{length}
 use Rattle.rules.specs.declared.Axis.{Axis}
 use Rattle.rules.specs.declared.Geometry.{Geometry}
 use Rattle.rules.specs.declared.Trailer.{Trailer}
+use Rattle.rules.specs.declared.TwoGridTrailer.{TwoGridTrailer}
 use Rattle.rules.specs.declared.Layout.{Layout}
 use Rattle.rules.specs.declared.Opened.{Opened}
 use Rattle.rules.specs.declared.Opened.the-variants as opened
 use Rattle.rules.specs.Units.{latitudeLimit, longitudeLimit, countMost, spacingMost, between, within}
 use Rattle.rules.specs.Answers.{Outcome, values, number, ask, numberOf}
-use Rattle.rules.specs.Image.{trailerOf, farBound, rows, columns, backOf, layoutFor, layoutOf}
+use Rattle.rules.specs.Image.{trailerOf, editionOf, twoGridTrailerOf, farBound, rows, columns}
+use Rattle.rules.specs.Image.{backOf, heightBackOf, correctionBackOf, layoutOf, twoGridLayoutOf, layoutFor}
 
 -- 1. Is the length at least 40?
 abbrev pub question1 : ℕ → Bool
@@ -38,10 +41,13 @@ unfoldable pub question5 : Geometry → Bool
 question5 g = boundsWithin latitudeLimit (g .latitude) && boundsWithin longitudeLimit (g .longitude)
 
 -- 6. Is back equal to 12 × rows × columns + 40, and not above the length?
-unfoldable pub question6 : Trailer → ℕ → Bool
-question6 t size = eqb (t .back) (backOf (t .geometry)) && leb (t .back) size
+unfoldable pub backPasses : (back wanted size : ℕ) → Bool
+backPasses back wanted size = eqb back wanted && leb back size
 
--- Questions 2 to 6, of a trailer and the image's length: the layout, or a number.
+unfoldable pub question6 : Trailer → ℕ → Bool
+question6 t size = backPasses (t .back) (backOf (t .geometry)) size
+
+-- Edition 1's questions 2 to 6, of a trailer and the image's length: the layout, or a number.
 unfoldable pub judge : Trailer → ℕ → Outcome Layout
 judge t size =
     ask (question2 t) 2
@@ -51,11 +57,44 @@ judge t size =
     (ask (question6 t size) 6
     (values (layoutOf size (t .geometry)))))))
 
--- Questions 1 to 6, of an image's bytes: where its values lie, or a number.
-unfoldable pub opening : List ℕ → Outcome Layout
-opening b = ask (question1 (length b)) 1 (judge (trailerOf b) (length b))
+-- Edition 2. Below 80 bytes is a 1, an unknown kind a 2.
+abbrev pub lengthOfTwo : ℕ → Bool
+lengthOfTwo size = leb 80 size
 
--- The code's answer, in these terms.
-abbrev pub openedOf : Opened → Outcome Layout
-openedOf (opened.Nodes n) = values (layoutFor n)
-openedOf (opened.Refused r) = number (numberOf r)
+abbrev pub kindKnown : TwoGridTrailer → Bool
+kindKnown t = eqb (t .kind) 0
+
+-- A question of the correction grid, and the same of the height grid.
+abbrev pub ofBoth : (Geometry → Bool) → TwoGridTrailer → Bool
+ofBoth question t = question (t .corrections .geometry) && question (t .heights .geometry)
+
+-- 6 of each: the correction nodes, then the height nodes, then the trailer touch each other.
+unfoldable pub backsPass : TwoGridTrailer → ℕ → Bool
+backsPass t size =
+    let c = t .corrections in
+    let h = t .heights in
+    backPasses (c .back) (correctionBackOf (c .geometry) (h .geometry)) size && backPasses (h .back) (heightBackOf (h .geometry)) size
+
+-- Edition 2's questions 2 to 6.
+unfoldable pub judgeTwo : TwoGridTrailer → ℕ → Outcome Layout
+judgeTwo t size =
+    ask (kindKnown t) 2
+    (ask (ofBoth question3 t) 3
+    (ask (ofBoth question4 t) 4
+    (ask (ofBoth question5 t) 5
+    (ask (backsPass t size) 6
+    (values (twoGridLayoutOf size (t .corrections .geometry) (t .heights .geometry)))))))
+
+-- The same of an image's bytes, question 1 first.
+unfoldable pub openingTwo : List ℕ → Outcome Layout
+openingTwo b = ask (lengthOfTwo (length b)) 1 (judgeTwo (twoGridTrailerOf b) (length b))
+
+-- Questions 1 to 6, of an image's bytes: where its values lie, or a number. An image of 40 bytes or more has an edition; edition 2 is
+-- judged by its own trailer, and any other as edition 1, whose question 2 it then meets.
+unfoldable pub opening : List ℕ → Outcome Layout
+opening b = ask (question1 (length b)) 1 (cond (eqb (editionOf b) 2) (openingTwo b) (judge (trailerOf b) (length b)))
+
+-- The code's answer of an image's bytes, in these terms.
+abbrev pub openedOf : List ℕ → Opened → Outcome Layout
+openedOf b (opened.Separate separate) = values (layoutFor b separate)
+openedOf b (opened.Refused r) = number (numberOf r)

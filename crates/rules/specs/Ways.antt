@@ -1,4 +1,5 @@
--- Document 01, "Way back and way out", with questions 7 to 11 in their order.
+-- Document 01, "Way back and way out", with questions 7 to 11 in their order, and 15 of document 02's note 1 where the height is looked up:
+-- after 11 going out, after 9 going back.
 use mathlib.Core.Bool.{Bool, cond, _&&_}
 use mathlib.Core.List.{List}
 use Prim.Native.Nat.{ℕ, zero, suc, _+_}
@@ -14,7 +15,7 @@ use Rattle.rules.specs.Units.{within, latitudeLimit, longitudeLimit, out
 use Rattle.rules.specs.Answers.{Outcome, values, number, ask, andThen, numberOf}
 use Rattle.rules.specs.Image.{Grid, gridOf}
 use Rattle.rules.specs.Questions.{opening}
-use Rattle.rules.specs.Lookup.{inside, correctionLookup, heightLookup}
+use Rattle.rules.specs.Lookup.{inside, correctionLookup, heightLookup, correctionGridLookup, heightGridLookup}
 
 -- What a way asks of a grid: whether a point is in the bounds, and there its corrections and its quasi-geoid height, or a number.
 pub record Source : Type 0 where
@@ -85,9 +86,15 @@ wayOf way.Back = back
 unfoldable pub convertOver : Way → Source → Point → ℤ → Outcome Position
 convertOver w s p h = ask (question7 (heightLimit w) p h) 7 (ask (s .inside p) 8 (wayOf w s p h))
 
--- A grid's answers: question 8's bounds are those of the corrections.
+-- A grid's answers: the bounds of questions 8 and 10 are those of the corrections; the lookups are edition 2's where the heights stand on
+-- a separate grid, else edition 1's.
 abbrev pub sourceOf : Grid → Source
-sourceOf g = record { inside = inside (g .corrections); corrections = correctionLookup g; height = heightLookup g }
+sourceOf g =
+    record {
+      inside = inside (g .corrections);
+      corrections = λ p. cond (g .separate) (correctionGridLookup g p) (correctionLookup g p);
+      height = λ q. cond (g .separate) (heightGridLookup g q) (heightLookup g q);
+    }
 
 -- A conversion over an image: questions 1 to 6 first.
 unfoldable pub convert : Way → List ℕ → Point → ℤ → Outcome Position

@@ -39,11 +39,25 @@ pub struct Geometry {
     pub longitude: Axis,
 }
 
-// The trailer, the image's last 40 bytes, as it stands. `back` is document 01's distance from the image's end to the first node.
+// The trailer of edition 1, the image's last 40 bytes, as it stands. `back` is document 01's distance from the image's end to the first
+// node.
 pub struct Trailer {
     pub geometry: Geometry,
     pub back: u64,
     pub edition: u64,
+}
+
+// A grid as the trailer of edition 2 has it: its geometry, and the distance from the image's end to its first node.
+pub struct GridTrailer {
+    pub geometry: Geometry,
+    pub back: u64,
+}
+
+// The trailer of edition 2, the image's last 80 bytes, but for the edition.
+pub struct TwoGridTrailer {
+    pub corrections: GridTrailer,
+    pub heights: GridTrailer,
+    pub kind: u64,
 }
 
 // A plane of values in an image: a value for each node of a geometry. That of the first node is the i32 at byte `first`; the others follow
@@ -54,8 +68,10 @@ pub struct Plane {
     pub stride: u64,
 }
 
-// Where an opened image has its values: the planes of latitude corrections, of longitude corrections and of quasi-geoid heights.
+// Where an opened image has its values: the planes of latitude corrections, of longitude corrections and of quasi-geoid heights; and
+// whether these stand on a separate grid, as in edition 2, or at the corrections' nodes, as in edition 1.
 pub struct Layout {
+    pub separate: bool,
     pub latitude: Plane,
     pub longitude: Plane,
     pub height: Plane,
@@ -130,7 +146,7 @@ pub struct Notation {
     pub letter: u8,
 }
 
-// The refusals, in the order of their questions' numbers, 1 to 14.
+// The refusals, in the order of their questions' numbers, 1 to 15.
 pub enum Refusal {
     ImageLength,
     Edition,
@@ -146,18 +162,13 @@ pub enum Refusal {
     Slope,
     BadNotation,
     ListLengths,
+    OffHeightGrid,
 }
 
-// Where the nodes of an opened image lie: their geometry, and the byte where the first one begins. It stands for the layout of their
-// planes.
-pub struct Nodes {
-    pub geometry: Geometry,
-    pub first: u64,
-}
-
-// What opening an image answers.
+// What opening an image answers: whether its heights stand on a separate grid, which with its trailer says where its values lie; or a
+// refusal.
 pub enum Opened {
-    Nodes(Nodes),
+    Separate(bool),
     Refused(Refusal),
 }
 

@@ -1,4 +1,5 @@
 -- Laws of the walk over all rows, for its functions and for the crate above.
-pub mod Maxima
 pub mod Rows
+pub mod Maxima
+pub mod PlaneRows
 pub mod Planes

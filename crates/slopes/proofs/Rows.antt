@@ -1,23 +1,50 @@
--- A walk along two rows of an image is one along the rows of a layout, which lie in the image, and what a walk's answer says.
-use mathlib.Core.Bool.{Bool, true, false}
+-- The walk over all rows of nodes, the walk along two rows of an image as one of it, and where the rows of a layout lie.
+use mathlib.Core.Bool.{Bool}
 use mathlib.Core.List.{List}
-use mathlib.Core.Path.{_≡_, refl, ap, _∙_}
+use mathlib.Core.Path.{_≡_, ap}
 use Prim.Native.Nat.{ℕ, _-_, _<_}
 use native.Mathlib.Omega.{arith}
+use Rattle.rules.specs.declared.Geometry.{Geometry}
 use Rattle.rules.specs.declared.Plane.{Plane}
 use Rattle.rules.specs.declared.Layout.{Layout}
-use Rattle.rules.specs.declared.Findings.{Findings}
+use Rattle.rules.specs.declared.Correction.{Correction}
+use Rattle.rules.specs.Answers.{Outcome}
+use Rattle.rules.specs.Units.{within}
 use Rattle.rules.specs.Image.{i32At, plane, rows, columns}
-use Rattle.rules.specs.Limits.{Open}
+use Rattle.rules.specs.Limits.{InImage, Open}
 use Rattle.rules.specs.Check.{every}
 use Rattle.nodes.proofs.Parts.{row-inside}
-use Rattle.rules.specs.declared.Runs.{Runs}
-use Rattle.steps.specs.declared.Walk.{Walk}
-use Rattle.steps.specs.declared.Walk.the-variants.{Largest, Beyond}
-use Rattle.steps.specs.Walk.{RowInside, runValue, nodeOf, nodePasses, walkOf, along, rowWalk}
-use Rattle.slopes.specs.Rows.{runAt, rowAt, nodeAt, passesAt, stepsAt}
+use Rattle.steps.specs.declared.Node.{Node}
+use Rattle.steps.specs.Walk.{RunInside, RowInside, runValue, nodeOf, nodePasses, withNode, withNodes}
+use Rattle.steps.specs.Walk.{BothInside, correctionOf, correctionPasses, withCorrections}
+use Rattle.steps.specs.Walk.{foldUpTo, stepTo, walkOver, alongRow, rowWalk, correctionRowWalk, valuesWalk}
+use Rattle.slopes.specs.Rows.{runAt, rowAt, correctionRowAt}
 
--- A value of a row is the plane's value of that row and column.
+-- Question 9 of the nodes of a row, by row and column.
+abbrev pub rowPasses : {N : Type 0} → (N → Bool) → (nodes : ℕ → ℕ → N) (columns row : ℕ) → Bool
+rowPasses passes nodes columns row = every columns (λ column. passes (nodes row column))
+
+-- What the steps to them leave. The first row is its own southern neighbour: `row - 1` of 0 is 0.
+abbrev pub rowSteps : {A N : Type 0} → (A → (here west south : N) → A) → (nodes : ℕ → ℕ → N) (columns row : ℕ) → A → A
+rowSteps add nodes columns row = foldUpTo columns (stepTo add (nodes (row - 1)) (nodes row))
+
+-- The walk over all rows.
+abbrev pub overRows : {A N : Type 0} → (N → Bool) → (A → (here west south : N) → A) → (nodes : ℕ → ℕ → N) → Geometry → A → Outcome A
+overRows passes add nodes g = walkOver (rowPasses passes nodes (columns g)) (rowSteps add nodes (columns g)) (rows g)
+
+-- The node of a row and a column, in the three planes, and its corrections.
+abbrev pub nodeAt : List ℕ → Layout → (row column : ℕ) → Node
+nodeAt b l row column =
+    record {
+      latitude = plane b (l .latitude) row column;
+      longitude = plane b (l .longitude) row column;
+      height = plane b (l .height) row column;
+    }
+
+abbrev pub correctionAt : List ℕ → Layout → (row column : ℕ) → Correction
+correctionAt b l row column = record { latitude = plane b (l .latitude) row column; longitude = plane b (l .longitude) row column }
+
+-- A value of a row in the image is the plane's value of that row and column.
 value-at : (b : List ℕ) (p : Plane) (row column : ℕ) → runValue b (runAt p row) column ≡ plane b p row column
 unfolding runValue plane
 value-at b p row column = ap (i32At b) (omega arith)
@@ -30,38 +57,55 @@ node-at b l row column = λ i. record {
   height = value-at b (l .height) row column i;
 }
 
-pub row-walked : (b : List ℕ) (l : Layout) (row : ℕ) (found : Findings) {south here : Runs} {w : Walk}
-    → south ≡ rowAt l (row - 1) → here ≡ rowAt l row → w ≡ rowWalk b south here (columns (l .latitude .geometry)) found
-    → w ≡ walkOf (passesAt b l row) (stepsAt b l row found)
-row-walked b l row found p q e =
-    let n = columns (l .latitude .geometry) in
-    e
-    ∙ (λ i. rowWalk b (p i) (q i) n found)
-    ∙ (λ i. walkOf
-    (every n (λ column. nodePasses (node-at b l row column i)))
-    (along (λ column. node-at b l (row - 1) column i) (λ column. node-at b l row column i) n found))
+correction-at : (b : List ℕ) (l : Layout) (row column : ℕ) → correctionOf b (correctionRowAt l row) column ≡ correctionAt b l row column
+unfolding correctionOf
+correction-at b l row column = λ i. record {
+  latitude = value-at b (l .latitude) row column i;
+  longitude = value-at b (l .longitude) row column i;
+}
 
--- Each row of an open layout lies in the image: its planes have one geometry.
+-- So the walk along rows of the image is one along those of its planes.
+pub values-walked : (b : List ℕ) (limit : ℕ) (p : Plane) (south row : ℕ)
+    → valuesWalk b limit (runAt p south) (runAt p row) ≡ alongRow (within limit) withNode (plane b p south) (plane b p row)
+values-walked b limit p south row = λ i. alongRow (within limit) withNode (λ n. value-at b p south n i) (λ n. value-at b p row n i)
+
+pub nodes-walked : (b : List ℕ) (l : Layout) (south row : ℕ)
+    → rowWalk b (rowAt l south) (rowAt l row) ≡ alongRow nodePasses withNodes (nodeAt b l south) (nodeAt b l row)
+nodes-walked b l south row = λ i. alongRow nodePasses withNodes (λ n. node-at b l south n i) (λ n. node-at b l row n i)
+
+pub corrections-walked : (b : List ℕ) (l : Layout) (south row : ℕ)
+    → correctionRowWalk b (correctionRowAt l south) (correctionRowAt l row)
+    ≡ alongRow correctionPasses withCorrections (correctionAt b l south) (correctionAt b l row)
+corrections-walked b l south row =
+    λ i. alongRow correctionPasses withCorrections (λ n. correction-at b l south n i) (λ n. correction-at b l row n i)
+
+-- Each row of a plane lies in the image.
+pub run-inside : {size : ℕ} {p : Plane} → InImage size p → (row : ℕ) → row < rows (p .geometry)
+    → RunInside size (runAt p row) (columns (p .geometry))
+run-inside o row h column k = row-inside o row column h k
+
+-- And of a layout: of its corrections, and of the three planes where they have one geometry.
 module _ {size : ℕ} {l : Layout} (o : Open size l) where
   pub longitude-row : (row : ℕ) → row < rows (l .latitude .geometry) → row < rows (l .longitude .geometry)
   longitude-row row h = rw (o .longitude-geometry) h
 
-  pub height-row : (row : ℕ) → row < rows (l .latitude .geometry) → row < rows (l .height .geometry)
-  height-row row h = rw (o .height-geometry) h
-
-  pub rows-inside : (row : ℕ) → row < rows (l .latitude .geometry) → RowInside size (rowAt l row) (columns (l .latitude .geometry))
-  rows-inside row h column k =
+  pub corrections-inside : (row : ℕ) → row < rows (l .latitude .geometry)
+      → BothInside size (correctionRowAt l row) (columns (l .latitude .geometry))
+  corrections-inside row h column k =
       record {
-        latitude = row-inside (o .latitude) row column h k;
-        longitude = row-inside (o .longitude) row column (longitude-row row h) (rw (o .longitude-geometry) k);
-        height = row-inside (o .height) row column (height-row row h) (rw (o .height-geometry) k);
+        latitude = run-inside (o .latitude) row h column k;
+        longitude = run-inside (o .longitude) row (longitude-row row h) column (rw (o .longitude-geometry) k);
       }
 
--- What a walk's answer says of question 9 and of the steps.
-pub within-limits : (b : Bool) (f found : Findings) → walkOf b f ≡ Largest found → (b ≡ true) × (f ≡ found)
-within-limits true f found e = (refl, cc)
-within-limits false f found e = let z : _≡_ {A = ℕ} 0 1 = cc in absurd (omega arith)
+  module _ (one : l .height .geometry ≡ l .latitude .geometry) where
+    pub height-row : (row : ℕ) → row < rows (l .latitude .geometry) → row < rows (l .height .geometry)
+    height-row row h = rw one h
 
-pub beyond-limits : (b : Bool) (f : Findings) → walkOf b f ≡ Beyond → b ≡ false
-beyond-limits true f e = let z : _≡_ {A = ℕ} 0 1 = cc in absurd (omega arith)
-beyond-limits false f e = refl
+    pub rows-inside : (row : ℕ) → row < rows (l .latitude .geometry) → RowInside size (rowAt l row) (columns (l .latitude .geometry))
+    rows-inside row h column k =
+        let c = corrections-inside row h column k in
+        record {
+          latitude = c .latitude;
+          longitude = c .longitude;
+          height = run-inside (o .height) row (height-row row h) column (rw one k);
+        }

@@ -1,43 +1,51 @@
--- A row of a layout in the walk, and limits of the steps.
-use mathlib.Core.Bool.{Bool}
-use mathlib.Core.List.{List}
-use Prim.Native.Nat.{ℕ, _-_, _*_, _≤_}
+-- A row of a layout in the walk, what the walks find, and limits of the steps.
+use mathlib.Core.Bool.{_&&_}
+use Prim.Native.Nat.{ℕ, _*_, _≤_}
+use lib.IntN.{ℤ}
+use Rattle.rules.specs.declared.Geometry.{Geometry}
 use Rattle.rules.specs.declared.Plane.{Plane}
 use Rattle.rules.specs.declared.Layout.{Layout}
 use Rattle.rules.specs.declared.Steps.{Steps}
 use Rattle.rules.specs.declared.Findings.{Findings}
-use Rattle.rules.specs.Units.{correctionLimit}
-use Rattle.rules.specs.Image.{plane, columns}
-use Rattle.rules.specs.Check.{every}
+use Rattle.rules.specs.Units.{within, correctionLimit}
+use Rattle.rules.specs.Answers.{Outcome, values, ask}
+use Rattle.rules.specs.Image.{Grid, columns}
+use Rattle.rules.specs.Check.{allWithin, allPass, stepsOf, findingsOf}
 use Rattle.nodes.specs.Row.{rowStart}
+use Rattle.steps.specs.Walk.{withNode, alongRow}
 use Rattle.rules.specs.declared.Run.{Run}
 use Rattle.rules.specs.declared.Runs.{Runs}
-use Rattle.steps.specs.declared.Node.{Node}
-use Rattle.steps.specs.Walk.{nodePasses, along}
+use Rattle.steps.specs.declared.CorrectionRuns.{CorrectionRuns}
+use Rattle.steps.specs.declared.CorrectionSteps.{CorrectionSteps}
 
--- Where a row's values lie in a plane, and in the three planes of a layout.
+-- Where a row's values lie in a plane, in the three planes of a layout, and in the two of its corrections.
 abbrev pub runAt : Plane → (row : ℕ) → Run
 runAt p row = record { first = rowStart p row; stride = p .stride }
 
 abbrev pub rowAt : Layout → (row : ℕ) → Runs
 rowAt l row = record { latitude = runAt (l .latitude) row; longitude = runAt (l .longitude) row; height = runAt (l .height) row }
 
--- The node of a row and a column, in the three planes.
-abbrev pub nodeAt : List ℕ → Layout → (row column : ℕ) → Node
-nodeAt b l row column =
-    record {
-      latitude = plane b (l .latitude) row column;
-      longitude = plane b (l .longitude) row column;
-      height = plane b (l .height) row column;
-    }
+abbrev pub correctionRowAt : Layout → (row : ℕ) → CorrectionRuns
+correctionRowAt l row = record { latitude = runAt (l .latitude) row; longitude = runAt (l .longitude) row }
 
--- Question 9 of the nodes of a row.
-abbrev pub passesAt : List ℕ → Layout → (row : ℕ) → Bool
-passesAt b l row = every (columns (l .latitude .geometry)) (λ column. nodePasses (nodeAt b l row column))
+-- The walk along a row of one value, beside the row to its south.
+abbrev pub planeRowWalk : (limit : ℕ) → Geometry → (ℕ → ℕ → ℤ) → (south row : ℕ) → Steps → Outcome Steps
+planeRowWalk limit g f south row = alongRow (within limit) withNode (f south) (f row) (columns g)
 
--- The largest steps with those to the nodes of a row. The first row is its own southern neighbour: `row - 1` of 0 is 0.
-abbrev pub stepsAt : List ℕ → Layout → (row : ℕ) → Findings → Findings
-stepsAt b l row = along (nodeAt b l (row - 1)) (nodeAt b l row) (columns (l .latitude .geometry))
+-- Question 9 of one value over all nodes, and its largest steps.
+unfoldable pub planeWalk : (limit : ℕ) → Geometry → (ℕ → ℕ → ℤ) → Outcome Steps
+planeWalk limit g f = ask (allWithin limit g f) 9 (values (stepsOf g f))
+
+-- The same of both corrections.
+unfoldable pub correctionsWalk : Grid → Outcome CorrectionSteps
+correctionsWalk g =
+    let c = g .corrections in
+    ask (allWithin correctionLimit c (g .latitude) && allWithin correctionLimit c (g .longitude)) 9
+    (values (record { latitude = stepsOf c (g .latitude); longitude = stepsOf c (g .longitude) }))
+
+-- The same of the three values.
+unfoldable pub gridWalk : Grid → Outcome Findings
+gridWalk g = ask (allPass g) 9 (values (findingsOf g))
 
 -- No step between values within the largest limit is larger.
 abbrev pub stepMost : ℕ

@@ -15,7 +15,8 @@ use Rattle.integers.specs.Distance.{abs-is}
 use Rattle.rules.specs.Image.{twosComplement, u32At, i32At}
 use Rattle.rules.specs.declared.Run.{Run}
 use Rattle.rules.specs.declared.Runs.{Runs}
-use Rattle.steps.specs.Walk.{runValue, nodeOf, Narrow, NarrowNode}
+use Rattle.steps.specs.declared.CorrectionRuns.{CorrectionRuns}
+use Rattle.steps.specs.Walk.{runValue, nodeOf, correctionOf, Narrow, NarrowNode, NarrowCorrection}
 
 twos-narrow : (n : ℕ) → n < 4294967296 → Narrow (twosComplement 2147483648 n)
 twos-narrow n h = by (ltb n 2147483648) refl
@@ -25,7 +26,7 @@ twos-narrow n h = by (ltb n 2147483648) refl
     by false e = omega (arith, ltb-false n 2147483648 e, abs-is (lit n ⊖ lit 4294967296))
 
 module _ (b : List ℕ) (bytes : (i : ℕ) → Fits w8 (getD b i 0)) where
-  value-narrow : (run : Run) (column : ℕ) → Narrow (runValue b run column)
+  pub value-narrow : (run : Run) (column : ℕ) → Narrow (runValue b run column)
   unfolding runValue i32At
   value-narrow run column =
       let at = run .first + run .stride * column in
@@ -39,3 +40,8 @@ module _ (b : List ℕ) (bytes : (i : ℕ) → Fits w8 (getD b i 0)) where
         longitude = value-narrow (row .longitude) column;
         height = value-narrow (row .height) column;
       }
+
+  pub correction-narrow : (row : CorrectionRuns) (column : ℕ) → NarrowCorrection (correctionOf b row column)
+  unfolding correctionOf
+  correction-narrow row column =
+      record { latitude = value-narrow (row .latitude) column; longitude = value-narrow (row .longitude) column }

@@ -1,9 +1,11 @@
-// The steps of a node's three values between neighbours along a row, with question 9 of each node.
+// The steps between neighbours along a row, of a node's three values, of its two corrections or of one value, with question 9 of each node.
 use numbers::i32_at;
+use numbers::is_within;
 use numbers::larger;
 use numbers::magnitude;
 use numbers::three_within;
 use rules::CORRECTION_LIMIT;
+use rules::Correction;
 use rules::Findings;
 use rules::QUASI_GEOID_LIMIT;
 use rules::Run;
@@ -12,8 +14,10 @@ use rules::Steps;
 ghost use mathlib.Core.Path.{_≡_};
 ghost use Prim.Native.Nat.{_≤_};
 ghost use lib.ListN.{length};
-ghost use Rattle.steps.specs.Walk.{ValueInside, NodeInside, RowInside, runValue, nodeOf, nodePasses};
-ghost use Rattle.steps.specs.Walk.{Narrow, NarrowNode, noSteps, withNode, withNodes, rowWalk};
+ghost use Rattle.steps.specs.Walk.{ValueInside, NodeInside, RunInside, RowInside, runValue, nodeOf, nodePasses, Narrow, NarrowNode};
+ghost use Rattle.steps.specs.Walk.{noSteps, noFindings, withNode, withNodes, walkedOf, valueWalkedOf, rowWalk, valuesWalk};
+ghost use Rattle.steps.specs.Walk.{CorrectionInside, BothInside, correctionOf, correctionPasses, NarrowCorrection};
+ghost use Rattle.steps.specs.Walk.{noCorrectionSteps, withCorrections, correctionsWalkedOf, correctionRowWalk};
 
 // The three values of a node.
 pub struct Node {
@@ -28,10 +32,34 @@ pub enum Walk {
     Beyond,
 }
 
+// The same of one value.
+pub enum ValueWalk {
+    Largest(Steps),
+    Beyond,
+}
+
+// Where a row's corrections lie in their two planes.
+pub struct CorrectionRuns {
+    pub latitude: Run,
+    pub longitude: Run,
+}
+
+// The largest steps of both corrections.
+pub struct CorrectionSteps {
+    pub latitude: Steps,
+    pub longitude: Steps,
+}
+
+// What a walk over nodes of corrections finds.
+pub enum CorrectionWalk {
+    Largest(CorrectionSteps),
+    Beyond,
+}
+
 // A row from west to east, beside the row to its south. The first node stands as its own western neighbour: a step of 0 changes no maximum.
 pub fn walk_row(image: &[u8], south: Runs, row: Runs, columns: u64, before: Findings) -> Walk
     requires { ⌜ (1 ≤ columns) × RowInside (length (now image)) south columns × RowInside (length (now image)) row columns ⌝ }
-    ensures { λ r. ⌜ r ≡ rowWalk (now (image .entry)) south row columns before ⌝ }
+    ensures { λ r. ⌜ walkedOf r ≡ rowWalk (now (image .entry)) south row columns before ⌝ }
 {
     let mut found = before;
     let mut west = node_of(image, row, 0);
@@ -48,6 +76,59 @@ pub fn walk_row(image: &[u8], south: Runs, row: Runs, columns: u64, before: Find
     Walk::Largest(found)
 }
 
+// The same of nodes of corrections.
+pub fn walk_correction_row(
+    image: &[u8],
+    south: CorrectionRuns,
+    row: CorrectionRuns,
+    columns: u64,
+    before: CorrectionSteps,
+) -> CorrectionWalk
+    requires { ⌜ (1 ≤ columns) × BothInside (length (now image)) south columns × BothInside (length (now image)) row columns ⌝ }
+    ensures { λ r. ⌜ correctionsWalkedOf r ≡ correctionRowWalk (now (image .entry)) south row columns before ⌝ }
+{
+    let mut found = before;
+    let mut west = correction_of(image, row, 0);
+    let mut column = 0;
+    while column < columns {
+        let here = correction_of(image, row, column);
+        if !correction_passes(here) {
+            return CorrectionWalk::Beyond;
+        }
+        found = with_corrections(found, here, west, correction_of(image, south, column));
+        west = here;
+        column += 1;
+    }
+    CorrectionWalk::Largest(found)
+}
+
+// The same of one value, which has a limit and lies by itself in an image.
+pub fn walk_values(
+    image: &[u8],
+    south: Run,
+    row: Run,
+    columns: u64,
+    limit: u64,
+    before: Steps,
+) -> ValueWalk
+    requires { ⌜ (1 ≤ columns) × RunInside (length (now image)) south columns × RunInside (length (now image)) row columns ⌝ }
+    ensures { λ r. ⌜ valueWalkedOf r ≡ valuesWalk (now (image .entry)) limit south row columns before ⌝ }
+{
+    let mut found = before;
+    let mut west = run_value(image, row, 0);
+    let mut column = 0;
+    while column < columns {
+        let here = run_value(image, row, column);
+        if !is_within(here, limit) {
+            return ValueWalk::Beyond;
+        }
+        found = with_node(found, here, west, run_value(image, south, column));
+        west = here;
+        column += 1;
+    }
+    ValueWalk::Largest(found)
+}
+
 // The node of a column.
 fn node_of(image: &[u8], row: Runs, column: u64) -> Node
     requires { ⌜ NodeInside (length (now image)) row column ⌝ }
@@ -60,6 +141,18 @@ fn node_of(image: &[u8], row: Runs, column: u64) -> Node
         latitude,
         longitude,
         height,
+    }
+}
+
+fn correction_of(image: &[u8], row: CorrectionRuns, column: u64) -> Correction
+    requires { ⌜ CorrectionInside (length (now image)) row column ⌝ }
+    ensures { λ r. ⌜ r ≡ correctionOf (now (image .entry)) row column ⌝ }
+{
+    let latitude = run_value(image, row.latitude, column);
+    let longitude = run_value(image, row.longitude, column);
+    Correction {
+        latitude,
+        longitude,
     }
 }
 
@@ -85,18 +178,44 @@ fn node_passes(n: Node) -> bool
     )
 }
 
-// The largest steps of no nodes.
-pub fn no_steps() -> Findings
+fn correction_passes(c: Correction) -> bool
+    ensures { λ r. ⌜ r ≡ correctionPasses c ⌝ }
+{
+    if is_within(c.latitude, CORRECTION_LIMIT) {
+        is_within(c.longitude, CORRECTION_LIMIT)
+    } else {
+        false
+    }
+}
+
+// The largest steps of no nodes: of one value, of the three and of both corrections.
+pub fn no_steps() -> Steps
     ensures { λ r. ⌜ r ≡ noSteps ⌝ }
 {
-    let none = Steps {
+    Steps {
         northward: 0,
         eastward: 0,
-    };
+    }
+}
+
+pub fn no_findings() -> Findings
+    ensures { λ r. ⌜ r ≡ noFindings ⌝ }
+{
+    let none = no_steps();
     Findings {
         latitude: none,
         longitude: none,
         height: none,
+    }
+}
+
+pub fn no_correction_steps() -> CorrectionSteps
+    ensures { λ r. ⌜ r ≡ noCorrectionSteps ⌝ }
+{
+    let none = no_steps();
+    CorrectionSteps {
+        latitude: none,
+        longitude: none,
     }
 }
 
@@ -117,6 +236,28 @@ fn with_nodes(found: Findings, here: Node, west: Node, south: Node) -> Findings
         latitude,
         longitude,
         height,
+    }
+}
+
+fn with_corrections(
+    found: CorrectionSteps,
+    here: Correction,
+    west: Correction,
+    south: Correction,
+) -> CorrectionSteps
+    requires { ⌜ NarrowCorrection here × NarrowCorrection west × NarrowCorrection south ⌝ }
+    ensures { λ r. ⌜ r ≡ withCorrections found here west south ⌝ }
+{
+    let latitude = with_node(found.latitude, here.latitude, west.latitude, south.latitude);
+    let longitude = with_node(
+        found.longitude,
+        here.longitude,
+        west.longitude,
+        south.longitude,
+    );
+    CorrectionSteps {
+        latitude,
+        longitude,
     }
 }
 

@@ -1,7 +1,7 @@
 // A conversion, out or back, for every image, point and height: questions 1 to 8, then the way.
 use back::back_from;
 use geometry::in_bounds;
-use image::layout_for;
+use image::layout_of;
 use image::open;
 use numbers::three_within;
 use out::out_from;
@@ -26,7 +26,7 @@ pub fn convert(way: Way, image: &[u8], p: Point, height: i64) -> Answer
     ensures { λ r. ⌜ ways.answerOf r ≡ ways.convert way (now (image .entry)) p height ⌝ }
 {
     match open(image) {
-        Opened::Nodes(n) => convert_over(way, image, layout_for(n), p, height),
+        Opened::Separate(s) => convert_over(way, image, layout_of(image, s), p, height),
         Opened::Refused(r) => Answer::Refused(r),
     }
 }

@@ -36,6 +36,14 @@ const UNWRITTEN: i64 = 0x5EED_0000_0000_0000;
 const IMAGE_GUARD: u8 = 0xA5;
 
 impl Call {
+    /// The image that the call takes, if it takes one.
+    pub fn image(&self) -> Option<&[u8]> {
+        match self {
+            Call::GridCheck { image } | Call::List(List { image, .. }) => Some(image),
+            Call::ReadNotation { .. } | Call::WriteNotation { .. } => None,
+        }
+    }
+
     /// Performs the call over memory of its own. The shift moves the lent image by some bytes, so
     /// that it stands at every kind of address.
     pub fn perform(&self, converter: &dyn Converter, shift: usize) -> Outcome {

@@ -1,28 +1,31 @@
 //! The command line of the program.
 
-pub const USAGE: &str = "usage: compare [--seed N] [--count N] [--progress]
-       compare --replay SEED:INDEX";
+use crate::{Case, Stream};
+
+pub const USAGE: &str = "usage: compare [--edition 1|2] [--seed N] [--count N] [--progress]
+       compare [--edition 1|2] --replay SEED:INDEX";
 
 /// What the program is asked to do.
-#[derive(Clone, Copy, Debug, PartialEq, Eq)]
+#[derive(Clone, Debug, PartialEq, Eq)]
 pub enum Command {
+    /// Compares so many calls of each stream.
     Run {
+        streams: Vec<Stream>,
         seed: u64,
         count: u64,
         progress: bool,
     },
-    Replay {
-        seed: u64,
-        index: u64,
-    },
+    Replay(Case),
 }
 
-/// Reads the words of the command line; nothing if they cannot be understood.
+/// Reads the words of the command line; nothing if they cannot be understood. Without an edition
+/// a run takes both, and a replay edition 1.
 pub fn parse(mut words: impl Iterator<Item = String>) -> Option<Command> {
     let (mut seed, mut count, mut progress) = (1, 20_000, false);
-    let mut replay = None;
+    let (mut streams, mut replay) = (Stream::ALL.to_vec(), None);
     while let Some(word) = words.next() {
         match word.as_str() {
+            "--edition" => streams = vec![Stream::of_edition(words.next()?.parse().ok()?)?],
             "--seed" => seed = words.next()?.parse().ok()?,
             "--count" => count = words.next()?.parse().ok()?,
             "--progress" => progress = true,
@@ -32,48 +35,70 @@ pub fn parse(mut words: impl Iterator<Item = String>) -> Option<Command> {
     }
     let Some(case) = replay else {
         return Some(Command::Run {
+            streams,
             seed,
             count,
             progress,
         });
     };
     let (seed, index) = case.split_once(':')?;
-    Some(Command::Replay {
+    Some(Command::Replay(Case {
+        stream: streams[0],
         seed: seed.parse().ok()?,
         index: index.parse().ok()?,
-    })
+    }))
 }
 
 #[cfg(test)]
 mod tests {
-    use super::{parse, Command};
+    use super::{parse, Case, Command, Stream};
 
     fn parsed(line: &str) -> Option<Command> {
         parse(line.split_whitespace().map(String::from))
     }
 
     #[test]
-    fn a_run_has_seed_count_and_progress() {
-        let run = |seed, count, progress| {
+    fn a_run_has_streams_seed_count_and_progress() {
+        let run = |streams: &[Stream], seed, count, progress| {
             Some(Command::Run {
+                streams: streams.to_vec(),
                 seed,
                 count,
                 progress,
             })
         };
-        assert_eq!(parsed(""), run(1, 20_000, false));
-        assert_eq!(parsed("--count 7 --progress --seed 3"), run(3, 7, true));
+        let both = [Stream::EditionOne, Stream::EditionTwo];
+        assert_eq!(parsed(""), run(&both, 1, 20_000, false));
+        let line = "--count 7 --progress --seed 3";
+        assert_eq!(parsed(line), run(&both, 3, 7, true));
+        let second = run(&[Stream::EditionTwo], 1, 7, false);
+        assert_eq!(parsed("--edition 2 --count 7"), second);
     }
 
     #[test]
-    fn a_replay_has_seed_and_index() {
-        let replay = Some(Command::Replay { seed: 3, index: 41 });
-        assert_eq!(parsed("--replay 3:41"), replay);
+    fn a_replay_has_stream_seed_and_index() {
+        let replay = |stream| {
+            Some(Command::Replay(Case {
+                stream,
+                seed: 3,
+                index: 41,
+            }))
+        };
+        assert_eq!(parsed("--replay 3:41"), replay(Stream::EditionOne));
+        let second = "--edition 2 --replay 3:41";
+        assert_eq!(parsed(second), replay(Stream::EditionTwo));
     }
 
     #[test]
     fn other_words_are_not_understood() {
-        for line in ["--count", "--count x", "--replay 3", "--replay 3:x", "more"] {
+        for line in [
+            "--count",
+            "--count x",
+            "--edition 3",
+            "--replay 3",
+            "--replay 3:x",
+            "more",
+        ] {
             assert_eq!(parsed(line), None);
         }
     }

@@ -1,30 +1,45 @@
 //! The comparison itself: a converter beside the reference, call by call.
 
-use crate::{cases, Call, Converter, Coverage, Outcome, Reference};
+use crate::{Call, Converter, Coverage, Outcome, Reference, Stream};
+
+/// A case: a call of a stream, by its seed and index.
+#[derive(Clone, Copy, Debug, PartialEq, Eq)]
+pub struct Case {
+    pub stream: Stream,
+    pub seed: u64,
+    pub index: u64,
+}
 
 /// A case in which the converter's outcome is not the reference's.
 #[derive(Debug)]
 pub struct Difference {
-    pub seed: u64,
-    pub index: u64,
+    pub case: Case,
     pub call: Call,
     pub expected: Outcome,
     pub found: Outcome,
 }
 
-/// Compares so many cases, from index 0 on. What the calls met, or the first difference. Each
-/// index is told before its call.
+/// Compares the cases of a stream from index 0 on, until the stream has counted so many calls.
+/// What they met, or the first difference. Each index is told before its call.
 pub fn compare(
     tested: &dyn Converter,
+    stream: Stream,
     seed: u64,
     count: u64,
     mut tell: impl FnMut(u64),
 ) -> Result<Coverage, Box<Difference>> {
-    let mut coverage = Coverage::default();
-    for index in 0..count {
+    let mut coverage = Coverage::of(stream);
+    let mut index = 0;
+    while coverage.calls < count {
         tell(index);
-        let (call, outcome) = compare_case(tested, seed, index)?;
+        let case = Case {
+            stream,
+            seed,
+            index,
+        };
+        let (call, outcome) = compare_case(tested, case)?;
         coverage.add(&call, &outcome);
+        index += 1;
     }
     Ok(coverage)
 }
@@ -32,19 +47,17 @@ pub fn compare(
 /// Compares one case. Its call with the outcome, or the difference.
 pub fn compare_case(
     tested: &dyn Converter,
-    seed: u64,
-    index: u64,
+    case: Case,
 ) -> Result<(Call, Outcome), Box<Difference>> {
-    let call = cases::call(seed, index);
-    let shift = (index % 8) as usize;
+    let call = case.stream.call(case.seed, case.index);
+    let shift = (case.index % 8) as usize;
     let expected = call.perform(&Reference, shift);
     let found = call.perform(tested, shift);
     if expected == found {
         return Ok((call, found));
     }
     Err(Box::new(Difference {
-        seed,
-        index,
+        case,
         call,
         expected,
         found,

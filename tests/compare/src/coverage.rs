@@ -1,26 +1,46 @@
-//! Which of document 01's numbers and counts a run has met.
+//! Which of the papers' numbers and counts a run has met.
 
-use crate::{Call, Outcome, Way};
+use crate::{Call, Outcome, Stream, Way};
 use std::fmt;
 
-/// A run of so many calls must meet every number and every count.
+/// A run of so many calls must meet every number of its stream and every count.
 pub const FULL_RUN: u64 = 200_000;
 
-/// How often each number and each count was met.
-#[derive(Clone, Debug, Default)]
+/// How often each number and each count was met among the calls that the stream counts.
+#[derive(Clone, Debug)]
 pub struct Coverage {
+    stream: Stream,
+    /// The calls that the stream counts.
     pub calls: u64,
+    /// Its other calls.
+    pub others: u64,
     pub fixes: u64,
     /// How often each number came, of calls and of fixes in lists. At 0: calls and fixes that
     /// gave values.
-    pub numbers: [u64; 15],
+    pub numbers: [u64; 16],
     /// How often the way out answered with each count, 1 to 5. At 0: never.
     pub counts: [u64; 6],
 }
 
 impl Coverage {
+    /// Nothing met yet.
+    pub fn of(stream: Stream) -> Coverage {
+        Coverage {
+            stream,
+            calls: 0,
+            others: 0,
+            fixes: 0,
+            numbers: [0; 16],
+            counts: [0; 6],
+        }
+    }
+
     /// Adds a call and what came of it.
     pub fn add(&mut self, call: &Call, outcome: &Outcome) {
+        if !self.stream.counts(call) {
+            self.others += 1;
+            return;
+        }
         self.calls += 1;
         self.numbers[outcome.number as usize] += 1;
         let Call::List(list) = call else {
@@ -38,20 +58,24 @@ impl Coverage {
         }
     }
 
-    /// What was never met, in words.
+    /// What the stream should have met and did not, in words.
     pub fn missing(&self) -> Vec<String> {
-        let never = |met: &[u64], name: &str| -> Vec<String> {
-            (1..met.len())
-                .filter(|at| met[*at] == 0)
-                .map(|at| format!("{name} {at} never occurred"))
-                .collect()
-        };
-        [never(&self.numbers, "number"), never(&self.counts, "count")].concat()
+        let numbers = self
+            .stream
+            .numbers()
+            .filter(|number| self.numbers[*number as usize] == 0)
+            .map(|number| format!("{}: number {number} never occurred", self.stream));
+        let counts = (1..self.counts.len())
+            .filter(|count| self.counts[*count] == 0)
+            .map(|count| format!("{}: count {count} never occurred", self.stream));
+        numbers.chain(counts).collect()
     }
 }
 
 impl fmt::Display for Coverage {
     fn fmt(&self, to: &mut fmt::Formatter) -> fmt::Result {
+        let (stream, calls, others) = (self.stream, self.calls, self.others);
+        writeln!(to, "{stream}: {calls} calls, {others} others")?;
         writeln!(to, "{} fixes in lists", self.fixes)?;
         for (number, times) in self.numbers.iter().enumerate() {
             writeln!(to, "number {number}: {times}")?;

@@ -1,7 +1,7 @@
 //! The comparison: many made-up calls, each performed by a converter and by the reference, whose
 //! outcomes must be the same in every number written.
 //!
-//! A call is made from a seed and an index alone, so that any of them can be replayed.
+//! A call is made from its stream, a seed and an index alone, so that any of them can be replayed.
 
 mod call;
 pub mod cases;
@@ -14,12 +14,16 @@ mod library;
 mod pages;
 mod random;
 mod report;
+mod steps;
+mod stream;
 
 pub use binding::Way;
 pub use call::{Call, List, Outcome};
 pub use command::{parse, Command, USAGE};
-pub use comparison::{compare, compare_case, Difference};
+pub use comparison::{compare, compare_case, Case, Difference};
 pub use converter::{Converter, Reference};
 pub use coverage::{Coverage, FULL_RUN};
 pub use library::Library;
 pub use random::Random;
+pub use steps::{cell_of, points_on_the_way, points_until_the_stop, stop_rule_holds};
+pub use stream::Stream;

@@ -1,16 +1,19 @@
 //! Compares the linked library libmarker.a with the reference on many made-up calls.
 
-use compare::{compare, compare_case, parse, Command, Library, FULL_RUN, USAGE};
+use compare::{
+    compare, compare_case, parse, Case, Command, Coverage, Library, Stream, FULL_RUN, USAGE,
+};
 use std::process::ExitCode;
 
 fn main() -> ExitCode {
     let done = match parse(std::env::args().skip(1)) {
         Some(Command::Run {
+            streams,
             seed,
             count,
             progress,
-        }) => run(seed, count, progress),
-        Some(Command::Replay { seed, index }) => replay(seed, index),
+        }) => run(&streams, seed, count, progress),
+        Some(Command::Replay(case)) => replay(case),
         None => {
             eprintln!("{USAGE}");
             return ExitCode::from(2);
@@ -25,15 +28,26 @@ fn main() -> ExitCode {
     }
 }
 
-fn run(seed: u64, count: u64, progress: bool) -> Result<(), String> {
+fn run(streams: &[Stream], seed: u64, count: u64, progress: bool) -> Result<(), String> {
+    println!("seed {seed}");
+    let mut compared = 0;
+    for stream in streams {
+        let coverage = run_stream(*stream, seed, count, progress)?;
+        compared += coverage.calls + coverage.others;
+    }
+    println!("compared {compared} calls, 0 differences");
+    Ok(())
+}
+
+/// Compares so many calls of one stream. What they met, or what went wrong, in words.
+fn run_stream(stream: Stream, seed: u64, count: u64, progress: bool) -> Result<Coverage, String> {
     let tell = |index| {
         if progress && index % 10_000 == 0 {
-            eprintln!("case {index} of {count}");
+            eprintln!("{stream}: case {index} of {count} or more");
         }
     };
-    println!("seed {seed}");
-    let coverage =
-        compare(&Library, seed, count, tell).map_err(|difference| difference.to_string())?;
+    let coverage = compare(&Library, stream, seed, count, tell)
+        .map_err(|difference| difference.to_string())?;
     print!("{coverage}");
     let missing = if count >= FULL_RUN {
         coverage.missing()
@@ -43,12 +57,11 @@ fn run(seed: u64, count: u64, progress: bool) -> Result<(), String> {
     if !missing.is_empty() {
         return Err(format!("incomplete run: {}", missing.join(", ")));
     }
-    println!("compared {} calls, 0 differences", coverage.calls);
-    Ok(())
+    Ok(coverage)
 }
 
-fn replay(seed: u64, index: u64) -> Result<(), String> {
-    let (call, outcome) = compare_case(&Library, seed, index).map_err(|it| it.to_string())?;
+fn replay(case: Case) -> Result<(), String> {
+    let (call, outcome) = compare_case(&Library, case).map_err(|it| it.to_string())?;
     println!("{call}{outcome}");
     for (index, row) in outcome.rows().enumerate() {
         println!("answer {index}: {row}");

@@ -1,8 +1,8 @@
 //! How a call and a difference are shown: short enough to read, and enough to replay.
 
 use crate::call::mark;
-use crate::{Call, Difference, Outcome};
-use reference::Trailer;
+use crate::{Call, Case, Difference, Outcome};
+use reference::{Trailer, TwoGridTrailer};
 use std::fmt::{self, Display, Formatter};
 
 /// An image is shown up to so many bytes, of its end.
@@ -30,18 +30,24 @@ impl Display for Call {
     }
 }
 
-/// The trailer's fields and the bytes, a node to a line.
+/// The trailer's fields and the bytes: the trailer as one line, the rest in lines as long as a
+/// node of edition 1 or a correction node of edition 2.
 fn show_image(to: &mut Formatter, image: &[u8]) -> fmt::Result {
     writeln!(to, "image of {} bytes", image.len())?;
-    if let Some(trailer) = Trailer::read(image) {
+    let second = TwoGridTrailer::read(image).filter(|it| it.edition == 2);
+    let (trailer_bytes, line_bytes) = if second.is_some() { (80, 8) } else { (40, 12) };
+    if let Some(trailer) = second {
+        writeln!(to, "{trailer:?}")?;
+    } else if let Some(trailer) = Trailer::read(image) {
         writeln!(to, "{trailer:?}")?;
     }
     let first = image.len().saturating_sub(SHOWN_BYTES);
     if first > 0 {
         writeln!(to, "its first {first} bytes are not shown")?;
     }
-    let (nodes, trailer) = image[first..].split_at(image[first..].len().saturating_sub(40));
-    for line in nodes.rchunks(12).rev().chain([trailer]) {
+    let shown = &image[first..];
+    let (nodes, trailer) = shown.split_at(shown.len().saturating_sub(trailer_bytes));
+    for line in nodes.rchunks(line_bytes).rev().chain([trailer]) {
         let hex: Vec<String> = line.iter().map(|byte| format!("{byte:02x}")).collect();
         writeln!(to, "  {}", hex.join(" "))?;
     }
@@ -91,9 +97,15 @@ impl Display for Outcome {
     }
 }
 
+impl Display for Case {
+    fn fmt(&self, to: &mut Formatter) -> fmt::Result {
+        write!(to, "{}:{} of {}", self.seed, self.index, self.stream)
+    }
+}
+
 impl Display for Difference {
     fn fmt(&self, to: &mut Formatter) -> fmt::Result {
-        writeln!(to, "difference in case {}:{}", self.seed, self.index)?;
+        writeln!(to, "difference in case {}", self.case)?;
         write!(to, "{}", self.call)?;
         writeln!(to, "expected {}", self.expected)?;
         writeln!(to, "found    {}", self.found)?;
@@ -104,7 +116,14 @@ impl Display for Difference {
                 writeln!(to, "answer {index}: found    {found}")?;
             }
         }
-        let case = format!("{}:{}", self.seed, self.index);
-        write!(to, "replay with: compare --replay {case}")
+        let Case {
+            stream,
+            seed,
+            index,
+        } = self.case;
+        write!(
+            to,
+            "replay with: compare --{stream} --replay {seed}:{index}"
+        )
     }
 }

@@ -1,72 +1,52 @@
 //! The made-up calls hold what they are made up for: every number and count, every place at which
 //! the way out can be refused, exact halves, points on the bounds, limits of the geometry.
 
+mod edition_2;
+mod made_up;
+
 use compare::cases::values::NEAR;
-use compare::{cases, Call, Coverage, List, Reference, Way};
-use reference::{
-    exact_values, grid_check, lookup, open_image, Axis, Image, Node, Number, Point, Trailer,
-};
+use compare::{cases, cell_of, points_on_the_way, Call, Coverage, Reference, Stream, Way};
+use made_up::{calls, for_each_point, images, is_half, SEED};
+use reference::{Axis, Image, Number, Point, Trailer};
 use std::collections::BTreeSet;
 
-const SEED: u64 = 7;
-const CASES: u64 = 20_000;
+const STREAM: Stream = Stream::EditionOne;
 
-fn calls() -> impl Iterator<Item = Call> {
-    (0..CASES).map(|index| cases::call(SEED, index))
-}
-
-/// The images of all calls that take one.
-fn images() -> impl Iterator<Item = Vec<u8>> {
-    calls().filter_map(|call| match call {
-        Call::GridCheck { image } | Call::List(List { image, .. }) => Some(image),
-        _ => None,
-    })
-}
-
-/// Does something for every point of the lists of one way over fit images.
-fn for_each_point(wanted: Way, mut action: impl FnMut(&Image, Point)) {
-    for call in calls() {
-        let Call::List(list) = call else {
-            continue;
-        };
-        let Ok(image) = open_image(&list.image) else {
-            continue;
-        };
-        let fixes = list.fixes.chunks_exact(3);
-        for fix in fixes.filter(|_| list.way == wanted) {
-            let point = Point {
-                latitude: fix[0].into(),
-                longitude: fix[1].into(),
-            };
-            action(&image, point);
+#[test]
+fn every_number_and_count_occurs() {
+    for stream in Stream::ALL {
+        let mut coverage = Coverage::of(stream);
+        for call in calls(stream) {
+            coverage.add(&call, &call.perform(&Reference, 0));
         }
+        assert_eq!(coverage.missing(), Vec::<String>::new());
     }
 }
 
 #[test]
-fn every_number_and_count_occurs() {
-    let mut coverage = Coverage::default();
-    for call in calls() {
-        coverage.add(&call, &call.perform(&Reference, 0));
-    }
-    assert_eq!(coverage.missing(), Vec::<String>::new());
+fn the_streams_numbers_are_1_to_15_together() {
+    let numbers: BTreeSet<Number> = Stream::ALL.into_iter().flat_map(Stream::numbers).collect();
+    assert_eq!(numbers, (1..=15).collect());
 }
 
 #[test]
 fn another_seed_gives_other_calls_and_the_same_seed_the_same() {
-    assert_eq!(cases::call(SEED, 5), cases::call(SEED, 5));
-    let differs = |index| cases::call(SEED, index) != cases::call(SEED + 1, index);
-    assert!((0..10).all(differs));
+    for stream in Stream::ALL {
+        assert_eq!(stream.call(SEED, 5), stream.call(SEED, 5));
+        let differs = |index| stream.call(SEED, index) != stream.call(SEED + 1, index);
+        assert!((0..10).all(differs));
+    }
 }
 
 #[test]
 fn exact_halves_of_both_signs_occur_for_each_value() {
     let mut halves = BTreeSet::new();
-    for_each_point(Way::Back, |image, point| {
-        for (value, exact) in exact_values(image, point).iter().flatten().enumerate() {
-            let (numerator, denominator) = exact.parts();
-            if 2 * (numerator.rem_euclid(denominator)) == denominator {
-                halves.insert((value, numerator.signum()));
+    for_each_point(STREAM, Way::Back, |image, point| {
+        let corrections = image.exact_corrections(point).into_iter().flatten();
+        let values = corrections.chain(image.exact_height(point));
+        for (value, exact) in values.enumerate() {
+            if is_half(exact) {
+                halves.insert((value, exact.parts().0.signum()));
             }
         }
     });
@@ -76,51 +56,34 @@ fn exact_halves_of_both_signs_occur_for_each_value() {
 /// The number that ends the way out, and at which pk: question 9 for the cell of pk, question 10
 /// for pk itself.
 fn end_of_the_way(image: &Image, given: Point) -> Option<(Number, usize)> {
-    let mut here = given;
-    for k in 0..=5 {
-        if !image.contains(here) {
-            return Some((if k == 0 { 8 } else { 10 }, k));
-        }
-        let Ok([latitude, longitude, _]) = lookup(image, here) else {
-            return Some((9, k));
-        };
-        here = Point {
-            latitude: given.latitude - latitude,
-            longitude: given.longitude - longitude,
-        };
+    let points = points_on_the_way(image, given);
+    let Some(last) = points.last() else {
+        return Some((8, 0));
+    };
+    if image.corrections(*last).is_err() {
+        return Some((9, points.len() - 1));
     }
-    None
+    (points.len() < 6).then_some((10, points.len()))
 }
 
 #[test]
 fn the_way_out_meets_an_unfit_cell_and_a_bound_at_every_step() {
-    let mut ends = BTreeSet::new();
-    for_each_point(Way::Out, |image, point| {
-        ends.extend(end_of_the_way(image, point));
-    });
-    assert!((0..=5).all(|k| ends.contains(&(9, k))), "{ends:?}");
-    assert!((1..=5).all(|k| ends.contains(&(10, k))), "{ends:?}");
+    for stream in Stream::ALL {
+        let mut ends = BTreeSet::new();
+        for_each_point(stream, Way::Out, |image, point| {
+            ends.extend(end_of_the_way(image, point));
+        });
+        assert!((0..=5).all(|k| ends.contains(&(9, k))), "{ends:?}");
+        assert!((1..=5).all(|k| ends.contains(&(10, k))), "{ends:?}");
+    }
 }
 
 #[test]
 fn the_way_out_stays_in_its_cell_and_leaves_it() {
     let mut stays = BTreeSet::new();
-    for_each_point(Way::Out, |image, given| {
-        if !image.contains(given) {
-            return;
-        }
-        let cell = |point| {
-            let (row, column) = image.places(point);
-            (row.cell, column.cell)
-        };
-        let Ok([latitude, longitude, _]) = lookup(image, given) else {
-            return;
-        };
-        let first = Point {
-            latitude: given.latitude - latitude,
-            longitude: given.longitude - longitude,
-        };
-        if image.contains(first) {
+    for_each_point(STREAM, Way::Out, |image, given| {
+        let cell = |point: &Point| cell_of(image.correction_geometry(), *point);
+        if let [given, first, ..] = points_on_the_way(image, given).as_slice() {
             stays.insert(cell(first) == cell(given));
         }
     });
@@ -132,22 +95,21 @@ fn the_way_out_stays_in_its_cell_and_leaves_it() {
 #[test]
 fn corners_lie_near_each_other_and_far_apart_for_each_value() {
     let mut met = BTreeSet::new();
-    for_each_point(Way::Back, |image, point| {
-        if !image.contains(point) || lookup(image, point).is_err() {
+    for_each_point(STREAM, Way::Back, |image, point| {
+        let Image::OneGrid(grid) = image else {
+            return;
+        };
+        if image.corrections(point).is_err() {
             return;
         }
-        let (row, column) = image.places(point);
-        let corners = [(0, 0), (0, 1), (1, 0), (1, 1)]
-            .map(|(north, east)| image.node(row.cell + north, column.cell + east));
-        let area = image.latitude_spacing * image.longitude_spacing;
+        let (row, column) = grid.geometry.places(point);
+        let corners = grid.corners(row.cell, column.cell).concat();
+        let (p, q) = grid.geometry.spacings();
         for value in 0..3 {
-            let from_southwest =
-                |node: &Node| i64::from(node[value]) - i64::from(corners[0][value]);
-            let furthest = corners.iter().map(|it| from_southwest(it).abs()).max();
-            let beyond = furthest.expect("four corners") - NEAR;
-            met.insert((value, beyond.clamp(-1, 2), area <= 1 << 48));
+            let beyond = made_up::furthest_apart(corners.iter().map(|it| it[value])) - NEAR;
+            met.insert((value, beyond.clamp(-1, 2), p * q <= 1 << 48));
         }
-        met.insert((3, 0, area == 1 << 48));
+        met.insert((3, 0, p * q == 1 << 48));
     });
     assert_eq!(met.len(), 3 * 4 * 2 + 2, "{met:?}");
 }
@@ -155,60 +117,29 @@ fn corners_lie_near_each_other_and_far_apart_for_each_value() {
 #[test]
 fn points_lie_on_and_beside_every_bound_and_corner() {
     let mut places = BTreeSet::new();
-    let place = |angle: i128, low: i128, high: i128| match angle {
-        _ if angle == low => "low",
-        _ if angle == high => "high",
-        _ if angle == low - 1 || angle == high + 1 => "outside",
-        _ => "other",
-    };
-    for_each_point(Way::Back, |image, point| {
-        let latitude = place(point.latitude, image.south, image.north());
-        let longitude = place(point.longitude, image.west, image.east());
-        places.insert((latitude, longitude));
+    for_each_point(STREAM, Way::Back, |image, point| {
+        places.insert(made_up::place_by_bounds(image.correction_geometry(), point));
     });
     assert_eq!(places.len(), 16, "{places:?}");
 }
 
 #[test]
 fn checked_grids_reach_the_limits_of_the_geometry_and_pass_with_steps() {
-    let mut met = BTreeSet::new();
-    for call in calls() {
-        let Call::GridCheck { image } = call else {
-            continue;
-        };
-        let Ok(opened) = open_image(&image) else {
-            continue;
-        };
-        let degrees = |bound: i128| bound.abs() / reference::DEGREE;
-        let steps = grid_check(&image).unwrap_or([0; 6]);
-        let events = [
-            ("spacing 1", opened.latitude_spacing == 1),
-            ("largest spacing", opened.longitude_spacing == 100_000_000),
-            ("4,096 rows", opened.rows == 4_096),
-            ("4,096 columns", opened.columns == 4_096),
-            ("2 × 2", opened.rows == 2 && opened.columns == 2),
-            ("south pole", degrees(opened.south) == 90),
-            ("north pole", degrees(opened.north()) == 90),
-            ("180 west", degrees(opened.west) == 180),
-            ("180 east", degrees(opened.east()) == 180),
-            ("all steps", steps.iter().all(|step| *step > 0)),
-        ];
-        met.extend(events.iter().filter(|(_, is_met)| *is_met).map(|it| it.0));
-    }
+    let met = made_up::limits_of_checked(STREAM, |image| *image.correction_geometry());
     assert_eq!(met.len(), 10, "{met:?}");
 }
 
 #[test]
 fn images_are_cut_to_every_length_of_note() {
-    let lengths: BTreeSet<usize> = images().map(|image| image.len()).collect();
+    let lengths: BTreeSet<usize> = images(STREAM).map(|image| image.len()).collect();
     assert!([0, 1, 39, 40, 41].iter().all(|it| lengths.contains(it)));
 }
 
 #[test]
-fn editions_are_0_and_1_and_more() {
-    let trailers = images().filter_map(|image| Trailer::read(&image));
-    let editions: BTreeSet<u32> = trailers.map(|it| it.edition.min(2)).collect();
-    assert_eq!(editions.len(), 3);
+fn editions_are_0_to_2_and_more() {
+    let trailers = images(STREAM).filter_map(|image| Trailer::read(&image));
+    let editions: BTreeSet<u32> = trailers.map(|it| it.edition.min(3)).collect();
+    assert_eq!(editions.len(), 4);
 }
 
 #[test]

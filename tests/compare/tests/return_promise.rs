@@ -1,21 +1,24 @@
 //! The return promise, demand 3, tried with the reference on made-up grids that pass the check.
 
-use compare::{cases, Call, Random};
+use compare::{Call, Random, Stream};
 use reference::{grid_check, open_image, way_back, way_out, Answer, Fix, Image, Point};
 
 const SEED: u64 = 11;
 
-/// A point at least so far inside all four bounds, if there is one.
+/// A point at least so far inside all four bounds, if there is one: "The return promise's margins
+/// count from both grids' bounds", which in edition 1 are the same.
 fn point_inside(random: &mut Random, image: &Image, depth: i128) -> Option<Point> {
-    let mut angle = |low: i128, high: i128| {
-        let (low, high) = (low + depth, high - depth);
+    let grids = [image.correction_geometry(), image.height_geometry()];
+    let mut angle = |lows: [i64; 2], highs: [i128; 2]| {
+        let low = i128::from(lows[0].max(lows[1])) + depth;
+        let high = highs[0].min(highs[1]) - depth;
         let edge = random.pick(&[Some(low), Some(high), None, None]);
         let inner = (low <= high).then(|| random.between(low as i64, high as i64))?;
         Some(edge.unwrap_or(inner.into()))
     };
     Some(Point {
-        latitude: angle(image.south, image.north())?,
-        longitude: angle(image.west, image.east())?,
+        latitude: angle(grids.map(|it| it.south), grids.map(|it| it.north()))?,
+        longitude: angle(grids.map(|it| it.west), grids.map(|it| it.east()))?,
     })
 }
 
@@ -75,17 +78,21 @@ fn try_back_and_out(image: &Image, bessel: Fix) {
     assert!(out.height.abs_diff(bessel.height) <= 1);
 }
 
-#[test]
-fn every_grid_that_passes_the_check_keeps_the_return_promise() {
+/// Tries the promise on those of the stream's images that pass the check and are wanted, with
+/// more than a thousand trips out and back, and as many back and out.
+fn try_images_of(stream: Stream, wanted: impl Fn(&Image) -> bool) {
     let (mut out_and_back, mut back_and_out) = (0, 0);
     for index in 0..40_000 {
-        let Call::GridCheck { image } = cases::call(SEED, index) else {
+        let Call::GridCheck { image } = stream.call(SEED, index) else {
             continue;
         };
         if grid_check(&image).is_err() {
             continue;
         }
         let image = open_image(&image).expect("checked");
+        if !wanted(&image) {
+            continue;
+        }
         let mut random = Random::for_case(SEED + 1, index);
         for _ in 0..10 {
             if let Some(point) = point_inside(&mut random, &image, 10_000_000) {
@@ -102,4 +109,16 @@ fn every_grid_that_passes_the_check_keeps_the_return_promise() {
     }
     assert!(out_and_back > 1_000, "{out_and_back}");
     assert!(back_and_out > 1_000, "{back_and_out}");
+}
+
+#[test]
+fn every_grid_that_passes_the_check_keeps_the_return_promise() {
+    try_images_of(Stream::EditionOne, |_| true);
+}
+
+#[test]
+fn every_image_of_edition_2_that_passes_keeps_it_inside_both_grids() {
+    try_images_of(Stream::EditionTwo, |image| {
+        image.correction_geometry() != image.height_geometry()
+    });
 }

@@ -1,54 +1,73 @@
 //! The grid check.
 
-use crate::lookup::node_fits;
-use crate::{ask, open_image, Image, Node, Number};
+use crate::{ask, open_image, Grid, Image, Number};
+
+/// "A and B": the largest absolute step of one value between neighbours in latitude, and in
+/// longitude.
+type Steps = [i128; 2];
 
 /// "After 1 to 6, question 9 over all nodes", then question 12. "A pass reports A and B for
 /// latitude correction, longitude correction and height".
 pub fn grid_check(bytes: &[u8]) -> Result<[i128; 6], Number> {
-    let image = open_image(bytes)?;
-    ask(all_nodes(&image).all(|node| node_fits(&node)), 9)?;
-    let (in_latitude, in_longitude) = largest_steps(&image);
-    let (p, q) = (image.latitude_spacing, image.longitude_spacing);
-    for value in 0..3 {
-        // "Question 12: is 100 × (A × Q + B × P) at most P × Q for each value? Else 12."
-        let (a, b) = (in_latitude[value], in_longitude[value]);
-        ask(100 * (a * q + b * p) <= p * q, 12)?;
-    }
-    Ok(std::array::from_fn(|field| {
-        let of_value = [in_latitude, in_longitude][field % 2];
-        of_value[field / 2]
-    }))
+    let steps = match open_image(bytes)? {
+        Image::OneGrid(nodes) => {
+            ask(all_nodes_fit(&nodes), 9)?;
+            allowed_steps(&nodes)?
+        }
+        Image::TwoGrids {
+            corrections,
+            heights,
+        } => {
+            ask(all_nodes_fit(&corrections) && all_nodes_fit(&heights), 9)?;
+            // "The slope test uses each grid's own spacings."
+            let [latitude, longitude] = allowed_steps(&corrections)?;
+            let [height] = allowed_steps(&heights)?;
+            [latitude, longitude, height]
+        }
+    };
+    Ok(std::array::from_fn(|field| steps[field / 2][field % 2]))
 }
 
-fn all_nodes<'a>(image: &'a Image) -> impl Iterator<Item = Node> + 'a {
-    (0..image.rows)
-        .flat_map(move |row| (0..image.columns).map(move |column| image.node(row, column)))
+fn all_nodes_fit<const VALUES: usize>(grid: &Grid<VALUES>) -> bool {
+    places(grid).all(|(row, column)| grid.node_fits(&grid.node(row, column)))
+}
+
+/// The rows and columns of all nodes.
+fn places<const VALUES: usize>(grid: &Grid<VALUES>) -> impl Iterator<Item = (i128, i128)> {
+    let (rows, columns) = (grid.geometry.rows, grid.geometry.columns);
+    (0..rows).flat_map(move |row| (0..columns).map(move |column| (row.into(), column.into())))
+}
+
+/// A and B of each value, if question 12 allows them.
+fn allowed_steps<const VALUES: usize>(grid: &Grid<VALUES>) -> Result<[Steps; VALUES], Number> {
+    let steps = largest_steps(grid);
+    let (p, q) = grid.geometry.spacings();
+    // "Question 12: is 100 × (A × Q + B × P) at most P × Q for each value? Else 12."
+    let allowed = |[a, b]: &Steps| 100 * (a * q + b * p) <= p * q;
+    ask(steps.iter().all(allowed), 12)?;
+    Ok(steps)
 }
 
 /// "For each of the three values let A be the largest absolute step between neighbours in
 /// latitude and B in longitude."
-fn largest_steps(image: &Image) -> ([i128; 3], [i128; 3]) {
-    let mut in_latitude = [0; 3];
-    let mut in_longitude = [0; 3];
-    for row in 0..image.rows {
-        for column in 0..image.columns {
-            let here = image.node(row, column);
-            if row + 1 < image.rows {
-                raise(&mut in_latitude, here, image.node(row + 1, column));
-            }
-            if column + 1 < image.columns {
-                raise(&mut in_longitude, here, image.node(row, column + 1));
-            }
-        }
-    }
-    (in_latitude, in_longitude)
+fn largest_steps<const VALUES: usize>(grid: &Grid<VALUES>) -> [Steps; VALUES] {
+    std::array::from_fn(|value| {
+        let in_latitude = largest_step(grid, value, (1, 0));
+        let in_longitude = largest_step(grid, value, (0, 1));
+        [in_latitude, in_longitude]
+    })
 }
 
-/// Raises the largest steps to those between two neighbours where these are larger.
-fn raise(largest: &mut [i128; 3], node: Node, neighbour: Node) {
-    for value in 0..3 {
-        let step = i128::from(neighbour[value]) - i128::from(node[value]);
-        largest[value] = largest[value].max(step.abs());
-    }
+/// The largest absolute step of one value to the neighbour so many rows and columns on.
+fn largest_step<const VALUES: usize>(
+    grid: &Grid<VALUES>,
+    value: usize,
+    (rows_on, columns_on): (i128, i128),
+) -> i128 {
+    let (rows, columns) = (grid.geometry.rows.into(), grid.geometry.columns.into());
+    let at = |row, column| i128::from(grid.node(row, column)[value]);
+    places(grid)
+        .filter(|(row, column)| row + rows_on < rows && column + columns_on < columns)
+        .map(|(row, column)| (at(row + rows_on, column + columns_on) - at(row, column)).abs())
+        .fold(0, i128::max)
 }

@@ -1,27 +1,36 @@
-//! The independent reference: document 01 said once more, over whole-number fractions.
+//! The independent reference: document 01, with note 1 of document 02, said once more, over
+//! whole-number fractions.
 //!
-//! It shares no code and no constants with `crates/`. It is meant to be read beside the paper, not
-//! to be fast. Every public function answers either its values or the paper's number.
+//! It shares no code and no constants with `crates/`. It is meant to be read beside the papers,
+//! not to be fast. Every public function answers either its values or the papers' number.
 
 mod check;
 mod fraction;
+mod geometry;
+mod grid;
 mod image;
 mod lists;
 mod lookup;
 mod notation;
+mod numbers;
+mod place;
+mod trailer;
 mod ways;
 
 pub use check::grid_check;
 pub use fraction::Fraction;
-pub use image::{open_image, write_image, Image, Node, Trailer};
+pub use geometry::Geometry;
+pub use grid::Grid;
+pub use image::{open_image, write_image, write_two_grids, Image};
 pub use lists::{convert_list, list_back, list_out};
-pub use lookup::{exact_values, lookup, Place, Point};
 pub use notation::{read_notation, write_notation, Axis, Notation};
+pub use place::{Place, Point};
+pub use trailer::{Trailer, TwoGridTrailer};
 pub use ways::{
     fix_questions, way_back, way_out, Answer, Fix, BACK_HEIGHT_LIMIT, OUT_HEIGHT_LIMIT,
 };
 
-/// The number of a question whose answer is no, 1 to 14.
+/// The number of a question whose answer is no, 1 to 15.
 pub type Number = i64;
 
 /// "An nd is 10^-9 degree": a whole degree in nd.

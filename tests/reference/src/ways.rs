@@ -1,6 +1,6 @@
-//! The way back and the way out of a single fix, with questions 7 to 11.
+//! The way back and the way out of a single fix, with questions 7 to 11 and 15.
 
-use crate::{ask, lookup, within, Image, Number, Point, DEGREE};
+use crate::{ask, within, Image, Number, Point, DEGREE};
 
 /// "The height within 100,000,000 (out)".
 pub const OUT_HEIGHT_LIMIT: i128 = 100_000_000;
@@ -30,14 +30,16 @@ pub fn fix_questions(image: &Image, fix: Fix, height_limit: i128) -> Result<(), 
         within(fix.point.latitude, 90 * DEGREE) && within(fix.point.longitude, 180 * DEGREE);
     ask(angles_fit && within(fix.height, height_limit), 7)?;
     // "8. Is the given point in the bounds, all four included? Else 8."
-    ask(image.contains(fix.point), 8)
+    ask(image.in_bounds(fix.point), 8)
 }
 
 /// "Back, from Bessel point q and NAP height H: the ETRS89 point is q plus the corrections at q;
 /// ellipsoidal height is H plus the quasi-geoid height at q. The evaluation count is 1."
 pub fn way_back(image: &Image, fix: Fix) -> Result<Answer, Number> {
     fix_questions(image, fix, BACK_HEIGHT_LIMIT)?;
-    let [latitude_correction, longitude_correction, quasi_geoid] = lookup(image, fix.point)?;
+    let [latitude_correction, longitude_correction] = image.corrections(fix.point)?;
+    // "Refusal 15, … after 9 going back", then question 9 for the height cell.
+    let quasi_geoid = image.height(fix.point)?;
     Ok(Answer {
         point: Point {
             latitude: fix.point.latitude + latitude_correction,
@@ -54,22 +56,23 @@ pub fn way_out(image: &Image, fix: Fix) -> Result<Answer, Number> {
     let mut previous = fix.point;
     for count in 1..=5 {
         // Question 9 is put for the cell of p(n−1) by this lookup.
-        let [latitude_correction, longitude_correction, _] = lookup(image, previous)?;
+        let [latitude_correction, longitude_correction] = image.corrections(previous)?;
         let next = Point {
             latitude: fix.point.latitude - latitude_correction,
             longitude: fix.point.longitude - longitude_correction,
         };
         // "10. Out: is each pk, k from 1, in the bounds? Else 10. This precedes the stop test
         // for pk, and question 9 for its cell."
-        ask(image.contains(next), 10)?;
+        ask(image.in_bounds(next), 10)?;
         // "The answer is the first pn, n from 1, whose two angles each differ from those of
         // p(n−1) by at most 1 nd."
         if within(next.latitude - previous.latitude, 1)
             && within(next.longitude - previous.longitude, 1)
         {
             // "NAP height is h minus the quasi-geoid height at pn. The evaluation count is n;
-            // the height lookup is not counted." It puts question 9 for the cell of pn.
-            let [_, _, quasi_geoid] = lookup(image, next)?;
+            // the height lookup is not counted." It puts question 9 for the cell of pn, in
+            // edition 2 for the height cell and after 15.
+            let quasi_geoid = image.height(next)?;
             return Ok(Answer {
                 point: next,
                 height: fix.height - quasi_geoid,

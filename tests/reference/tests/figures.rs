@@ -1,33 +1,18 @@
 //! Every figure of document 01's "Grid G and its figures" on images, starred and unstarred, and
 //! the figure of its first slip, each by name.
 
+mod answers;
 mod common;
 
+use answers::{answer, convert};
 use common::{fix_at, g_node, grid_g, image_of, point_at, G_TRAILER};
-use reference::{
-    grid_check, lookup, open_image, way_back, way_out, Answer, Fix, Image, Number, Point,
-};
-
-type Way = fn(&Image, Fix) -> Result<Answer, Number>;
-
-fn convert(way: Way, image: &[u8], fix: Fix) -> Result<Answer, Number> {
-    way(&open_image(image)?, fix)
-}
+use reference::{grid_check, open_image, way_back, way_out, Answer, Fix, Image, Number, Point};
 
 /// G with other latitude corrections by row.
 fn g_with_latitude_corrections(by_row: [i32; 3]) -> Vec<u8> {
     image_of(&G_TRAILER, |row, column| {
         let [_, longitude, height] = g_node(row, column);
         [by_row[row as usize], longitude, height]
-    })
-}
-
-fn answer(latitude: i64, longitude: i64, height: i64, count: i128) -> Result<Answer, Number> {
-    let fix = fix_at(latitude, longitude, height);
-    Ok(Answer {
-        point: fix.point,
-        height: fix.height,
-        count,
     })
 }
 
@@ -63,8 +48,9 @@ fn starred_back_2001_2000_gives_8() {
 #[test]
 fn starred_back_125_0_has_latitude_correction_101() {
     let image = grid_g();
-    let values = lookup(&open_image(&image).unwrap(), point_at(125, 0)).unwrap();
-    assert_eq!(values[0], 101);
+    let opened = open_image(&image).unwrap();
+    let [correction, _] = opened.corrections(point_at(125, 0)).unwrap();
+    assert_eq!(correction, 101);
     let answered = convert(way_back, &image, fix_at(125, 0, 0));
     assert_eq!(answered, answer(125 + 101, -50, 430_000, 1));
 }
@@ -75,7 +61,9 @@ fn sloping_longitude_correction(longitude: i64) -> i128 {
         let [latitude, _, height] = g_node(row, column);
         [latitude, -100 - column, height]
     });
-    lookup(&open_image(&image).unwrap(), point_at(0, longitude)).unwrap()[1]
+    let opened = open_image(&image).unwrap();
+    let [_, correction] = opened.corrections(point_at(0, longitude)).unwrap();
+    correction
 }
 
 #[test]
@@ -125,15 +113,14 @@ fn starred_100_110_120_out_602_450_gives_497_500_height_10000_count_2() {
 
 /// The first slip: "Corrections looked up at the ETRS89 point and subtracted a single time".
 fn single_subtraction(image: &Image, fix: Fix) -> Result<Answer, Number> {
-    let [latitude, longitude, _] = lookup(image, fix.point)?;
+    let [latitude, longitude] = image.corrections(fix.point)?;
     let point = Point {
         latitude: fix.point.latitude - latitude,
         longitude: fix.point.longitude - longitude,
     };
-    let [_, _, quasi_geoid] = lookup(image, point)?;
     Ok(Answer {
         point,
-        height: fix.height - quasi_geoid,
+        height: fix.height - image.height(point)?,
         count: 1,
     })
 }

@@ -1,12 +1,22 @@
 //! Document 01's questions at their limits and in their order, and the layout of image and
-//! lists.
+//! lists, for edition 1.
 
 mod common;
+mod limits;
 
-use common::{fix_at, g_node, grid_g, image_of, G_TRAILER, SOUTH, WEST};
+use common::{fix_at, g_node, grid_g, image_of, G_GEOMETRY, G_TRAILER, SOUTH, WEST};
 use reference::{
-    list_back, list_out, lookup, open_image, way_back, way_out, Fix, Number, Point, Trailer,
+    list_back, list_out, open_image, way_back, way_out, Fix, Geometry, Grid, Image, Number, Point,
+    Trailer,
 };
+
+/// The nodes of an edition 1 image that opens.
+fn opened(image: &[u8]) -> Grid<'_, 3> {
+    match open_image(image) {
+        Ok(Image::OneGrid(nodes)) => nodes,
+        other => panic!("{other:?}"),
+    }
+}
 
 /// The number that G gets after a change of its trailer.
 fn number_after(change: impl Fn(&mut Trailer)) -> Option<Number> {
@@ -33,10 +43,11 @@ fn trailer_layout_is_little_endian_in_the_papers_order() {
     let first_node = image.len() - 88;
     image[first_node..first_node + 12]
         .copy_from_slice(&[5, 0, 0, 0, 255, 255, 255, 255, 7, 1, 0, 0]);
-    let opened = open_image(&image).unwrap();
-    assert_eq!((opened.south, opened.west), (1, -2));
-    assert_eq!((opened.north(), opened.east()), (4, 2));
-    assert_eq!(opened.node(0, 0), [5, -1, 263]);
+    let nodes = opened(&image);
+    let geometry = nodes.geometry;
+    assert_eq!((geometry.south, geometry.west), (1, -2));
+    assert_eq!((geometry.north(), geometry.east()), (4, 2));
+    assert_eq!(nodes.node(0, 0), [5, -1, 263]);
 }
 
 #[test]
@@ -51,68 +62,36 @@ fn question_2_the_edition_precedes_question_3() {
     let number = |edition| {
         number_after(|trailer| {
             trailer.edition = edition;
-            trailer.rows = 1;
+            trailer.geometry.rows = 1;
         })
     };
-    assert_eq!(number(0), Some(2));
-    assert_eq!(number(2), Some(2));
+    for edition in [0, 3, 257, u32::MAX] {
+        assert_eq!(number(edition), Some(2));
+    }
     assert_eq!(number(1), Some(3));
+}
+
+/// The number that G gets after a change of its geometry, its back being wrong.
+fn number_after_geometry(change: &dyn Fn(&mut Geometry)) -> Option<Number> {
+    number_after(|trailer| {
+        trailer.back = 0;
+        change(&mut trailer.geometry);
+    })
 }
 
 #[test]
 fn question_3_rows_and_columns_precede_question_4() {
-    let number = |rows, columns| {
-        number_after(|trailer| {
-            (trailer.rows, trailer.columns) = (rows, columns);
-            trailer.latitude_spacing = 0;
-        })
-    };
-    for count in [0, 1, 4_097, u32::MAX] {
-        assert_eq!(number(count, 2), Some(3));
-        assert_eq!(number(2, count), Some(3));
-    }
-    assert_eq!(number(2, 4_096), Some(4));
-    assert_eq!(number(4_096, 2), Some(4));
+    limits::rows_and_columns(&number_after_geometry);
 }
 
 #[test]
 fn question_4_the_spacings_precede_question_5() {
-    let number = |latitude_spacing, longitude_spacing| {
-        number_after(|trailer| {
-            trailer.latitude_spacing = latitude_spacing;
-            trailer.longitude_spacing = longitude_spacing;
-            trailer.south = i64::MAX;
-        })
-    };
-    for spacing in [0, 100_000_001, u32::MAX] {
-        assert_eq!(number(spacing, 1), Some(4));
-        assert_eq!(number(1, spacing), Some(4));
-    }
-    assert_eq!(number(1, 100_000_000), Some(5));
-    assert_eq!(number(100_000_000, 1), Some(5));
+    limits::spacings(&number_after_geometry);
 }
 
 #[test]
 fn question_5_the_bounds_precede_question_6() {
-    let number = |south, west| {
-        number_after(|trailer| {
-            (trailer.south, trailer.west) = (south, west);
-            trailer.back = 0;
-        })
-    };
-    for south in [-90_000_000_001, 90_000_000_000 - 1_999, i64::MIN, i64::MAX] {
-        assert_eq!(number(south, 0), Some(5));
-    }
-    for west in [
-        -180_000_000_001,
-        180_000_000_000 - 1_999,
-        i64::MIN,
-        i64::MAX,
-    ] {
-        assert_eq!(number(0, west), Some(5));
-    }
-    assert_eq!(number(-90_000_000_000, -180_000_000_000), Some(6));
-    assert_eq!(number(89_999_998_000, 179_999_998_000), Some(6));
+    limits::bounds(&number_after_geometry);
 }
 
 #[test]
@@ -122,7 +101,7 @@ fn question_6_back_and_the_length() {
     assert_eq!(number_after(|trailer| trailer.back = 148), None);
     assert_eq!(open_image(&grid_g()[1..]).err(), Some(6));
     let longer = [vec![255; 5], grid_g()].concat();
-    assert_eq!(open_image(&longer).unwrap().node(0, 0), g_node(0, 0));
+    assert_eq!(opened(&longer).node(0, 0), g_node(0, 0));
 }
 
 #[test]
@@ -159,7 +138,10 @@ fn number_with(corner: i32, value: usize, stands_there: i32) -> Option<Number> {
         node
     });
     let image = open_image(&bytes).unwrap();
-    lookup(&image, fix_at(0, 0, 0).point).err()
+    let corner = fix_at(0, 0, 0).point;
+    let number = image.corrections(corner).err();
+    assert_eq!(image.height(corner).err(), number);
+    number
 }
 
 #[test]
@@ -177,14 +159,13 @@ fn question_9_asks_all_three_values_of_all_four_nodes() {
 /// A grid with spacings 1 and two columns: the latitude correction at row r is the r-th one.
 fn grid_by_row(corrections: &[i32]) -> Vec<u8> {
     let rows = corrections.len() as u32;
-    let trailer = Trailer {
+    let trailer = Trailer::over(Geometry {
         latitude_spacing: 1,
         longitude_spacing: 1,
         rows,
         columns: 2,
-        back: 24 * rows + 40,
-        ..G_TRAILER
-    };
+        ..G_GEOMETRY
+    });
     image_of(&trailer, |row, _| [corrections[row as usize], 0, 0])
 }
 

@@ -12,7 +12,7 @@ use Rattle.rules.specs.Answers.{values, number, numberOf}
 use Rattle.rules.specs.Image.{layoutFor}
 use Rattle.rules.specs.Lists.{question14, convertList}
 use Rattle.rules.specs.Questions.{opening, openedOf}
-use Rattle.rules.proofs.Opening.{opened, first-node}
+use Rattle.rules.proofs.Opening.{opened}
 use Rattle.fixes.proofs.convert_list.Statement.{statement}
 use Rattle.fixes.proofs.convert_list.Tie as tie
 
@@ -21,11 +21,11 @@ abbrev start : tie.After-open → tie.Start
 start c = c .before .before
 
 -- questions 1 to 6 and 14, as the code found them
-found : (c : tie.After-n) → opening (now (start (c .before .before) .args .image)) ≡ values (layoutFor (c .n .given .0 .0))
-found c = sym (c .before .before .«open» .ensures) ∙ ap openedOf (c .n .given .1)
+found : (c : tie.After-s) → let b = now (start (c .before .before) .args .image) in opening b ≡ values (layoutFor b (c .s .given .0 .0))
+found c = sym (c .before .before .«open» .ensures) ∙ ap (openedOf _) (c .s .given .1)
 
 refused : (c : tie.After-r) → opening (now (start (c .before .before) .args .image)) ≡ number (numberOf (c .r .given .0 .0))
-refused c = sym (c .before .before .«open» .ensures) ∙ ap openedOf (c .r .given .1)
+refused c = sym (c .before .before .«open» .ensures) ∙ ap (openedOf _) (c .r .given .1)
 
 lengths : (c : tie.After-lengths-pass) (b : Bool) → c .lengths-pass .result ≡ b →
     let s = start (c .before .before .before .before .before) .args in question14 (length (now (s .fixes))) (length (now (s .answers))) ≡ b
@@ -39,13 +39,13 @@ returns c =
     let n = c .refusal-number in
     (rw (found (t .before .before .before), q) (told w64 (n .ok) (n .ensures)), rw (found (t .before .before .before), q))
 
-layout-for-requires : tie.Need-layout-for-requires
-layout-for-requires c κs = omega (arith, first-node _ _ (found (c .before .before .before .before)))
+layout-of-requires : tie.Need-layout-of-requires
+layout-of-requires c κs = found (c .before .before .before .before)
 
 -- the layout that is handed on
-laid : (c : tie.After-layout-for) →
-    opening (now (start (c .before .before .before .before .before .before .before) .args .image)) ≡ values (c .layout-for .result)
-laid c = found (c .before .before .before .before .before) ∙ ap values (sym (c .layout-for .ensures))
+laid : (c : tie.After-layout-of) →
+    opening (now (start (c .before .before .before .before .before .before .before) .args .image)) ≡ values (c .layout-of .result)
+laid c = found (c .before .before .before .before .before) ∙ ap values (sym (c .layout-of .ensures))
 
 convert-all-requires : tie.Need-convert-all-requires
 convert-all-requires c κs =
@@ -76,7 +76,7 @@ convert-list-spec =
     (λ c κs. tt)
     (λ c. search needs)
     returns
-    layout-for-requires
+    layout-of-requires
     convert-all-requires
     (λ c. search needs)
     (λ c κs. tt)

@@ -1,14 +1,11 @@
 -- `image::judged` meets its contract: each return is one question's no, with the questions before it yes.
 use mathlib.Core.Bool.{true}
-use mathlib.Core.Path.{_≡_, refl, sym, ap, _∙_}
-use Prim.Native.Nat.{ℕ, _-_, _≤_}
-use native.Mathlib.Omega.{arith}
+use mathlib.Core.Path.{_≡_, refl, sym, _∙_}
+use Prim.Native.Nat.{ℕ}
 use borrow.Author.Tests.{not-true, not-false}
 use Rattle.rules.specs.declared.Trailer.{Trailer}
-use Rattle.rules.specs.Answers.{values}
-use Rattle.rules.specs.Image.{backOf, nodesFrom}
 use Rattle.rules.specs.Questions.{question2, question3, question4, question5, question6, judge}
-use Rattle.rules.proofs.Opening.{latitude-sized, longitude-sized, back-is}
+use Rattle.rules.proofs.Opening.{latitude-sized, longitude-sized}
 use borrow.Author.Needs.{needs}
 use Rattle.image.proofs.judged.Statement.{statement}
 use Rattle.image.proofs.judged.Tie as tie
@@ -52,9 +49,6 @@ size6 c = size2 (c .before .before .before .before .before .before .before .befo
 yes6 : (c : tie.Else5) → question6 (trailer5 (c .before .before)) (size6 c) ≡ true
 yes6 c = sym (c .before .bytes-pass .ensures) ∙ not-false _ (c .if5 .left)
 
-back-of : (c : tie.Else5) → let t = trailer5 (c .before .before) in (t .back ≡ backOf (t .geometry)) × (t .back ≤ size6 c)
-back-of c = back-is _ _ (yes6 c)
-
 returns : tie.Need-returns
 unfolding judge
 returns c = rw (sym (c .before .edition-passes .ensures) ∙ not-true _ (c .if1 .taken)) refl
@@ -87,17 +81,9 @@ returns-5 c =
     let y = yes5 (c .before .before) in
     rw (y .0, y .1, y .2, y .3, sym (c .before .bytes-pass .ensures) ∙ not-true _ (c .if5 .taken)) refl
 
-sub-t11 : tie.Need-sub-t11
-sub-t11 c = back-of (c .before) .1
-
 returns-6 : tie.Need-returns-6
 unfolding judge
-returns-6 c =
-    let e = c .before in
-    let y = yes5 (e .before .before) in
-    let g = trailer5 (e .before .before) .geometry in
-    rw (y .0, y .1, y .2, y .3, yes6 e)
-    (ap (λ (n : ℕ). values (nodesFrom (size6 e - n) g)) (back-of e .0))
+returns-6 c = let y = yes5 (c .before .before) in rw (y .0, y .1, y .2, y .3, yes6 c) refl
 
 pub judged-spec : {M : Type 1} → statement M
 judged-spec =
@@ -113,5 +99,4 @@ judged-spec =
     returns-4
     bytes-pass-requires
     returns-5
-    sub-t11
     returns-6)

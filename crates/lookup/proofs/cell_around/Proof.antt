@@ -40,11 +40,10 @@ column c = rw (c .before .before .offsets-of .ensures) at (c .locate2 .ensures)
 corners-around-requires : tie.Need-corners-around-requires
 corners-around-requires c κs =
     let s = start c in
-    let o = s .pre .layout in
-    let sized = o .latitude .geometry in
+    let sized = s .pre .1 .geometry in
     let row-next = next-node (latitude-axis s) (northing s) (sized .latitude .sized) (row (c .before)) in
     let column-next = next-node (longitude-axis s) (easting s) (sized .longitude .sized) (column c) in
-    (o, (row-next, column-next))
+    (s .pre .0, (row-next, column-next))
 
 -- the offsets that were found
 northing-is : (c : tie.After-locate2) → c .before .before .offsets-of .result .northing ≡ northing (start c)
@@ -57,10 +56,10 @@ easting-is c = ap (λ (o : Offsets). o .easting) (c .before .before .offsets-of 
 abbrev placed : tie.After-corners-pass → tie.After-locate2
 placed c = c .before .before .before .before .before
 
-sub-south : tie.Need-sub-t13
+sub-south : tie.Need-sub-t14
 sub-south c = let t = placed (c .before .before) in part-below (latitude-axis (start t)) (northing-is t) (row (t .before))
 
-sub-west : tie.Need-sub-t14
+sub-west : tie.Need-sub-t15
 sub-west c = let t = placed (c .before .before .before .before) in part-below (longitude-axis (start t)) (easting-is t) (column t)
 
 returns : tie.Need-returns
@@ -72,7 +71,8 @@ returns c =
     let k = p .before .before .before .before .corners-around .ensures in
     let r = ap (λ (at : AxisPlace). at .cell) (row (t .before)) in
     let l = ap (λ (at : AxisPlace). at .cell) (column t) in
-    let corners = k ∙ (λ i. cellCorners (gridOf (now (s .args .image)) (layoutFrom (s .args .g) (s .args .r))) (r i) (l i)) in
+    let grid = gridOf (now (s .args .image)) (layoutFrom (s .args .separate) (s .args .g) (s .args .r)) in
+    let corners = k ∙ (λ i. cellCorners grid (r i) (l i)) in
     let south = side-of (latitude-axis s) (northing-is t) (row (t .before)) in
     let west = side-of (longitude-axis s) (easting-is t) (column t) in
     let passes = p .corners-pass .ensures ∙ ap cornersPass corners in

@@ -7,10 +7,10 @@ use prog.Routine.{Routine}
 use prog.Wp.{Heap}
 use ghost.Atoms.{Atoms}
 use contract.Monad.{Fun}
-use Rattle.lookup.proofs.look_up_height.Symbol as callee-def
-use Rattle.lookup.proofs.look_up_height.Symbol.{name as #lookup·look-up-height}
-use Rattle.lookup.proofs.look_up_height.Met as callee-thm
-use Rattle.lookup.specs.Held.{OpenAround}
+use Rattle.source.proofs.look_up_height.Symbol as callee-def
+use Rattle.source.proofs.look_up_height.Symbol.{name as #source·look-up-height}
+use Rattle.source.proofs.look_up_height.Met as callee-thm
+use Rattle.source.specs.Asked.{OpenAround}
 use Rattle.opened.specs.Over.{IsLookup}
 use Rattle.opened.proofs.Types.{Point, HeightLookup}
 use Rattle.opened.proofs.Over.{own-clauses, entered-over}
@@ -27,5 +27,5 @@ same 𝓤 H A mem run = λ i κs a. own-clauses 𝓤 H A Point HeightLookup Open
 pub look-up-in-spec : {M : Type 1} → stated.statement M
 unfolding code.routine
 look-up-in-spec 𝓤 H 𝓜 𝓖 𝓡 =
-    entered-over 𝓤 H 𝓜 𝓖 𝓡 code.env Point HeightLookup OpenAround IsLookup #opened·look-up-in #lookup·look-up-height
-    (code.unfolded 𝓤 H 𝓜 𝓡) callee-def.routine code.calls-lookup·look-up-height (callee-thm.met 𝓤 H 𝓜 𝓖 𝓡)
+    entered-over 𝓤 H 𝓜 𝓖 𝓡 code.env Point HeightLookup OpenAround IsLookup #opened·look-up-in #source·look-up-height
+    (code.unfolded 𝓤 H 𝓜 𝓡) callee-def.routine code.calls-source·look-up-height (callee-thm.met 𝓤 H 𝓜 𝓖 𝓡)

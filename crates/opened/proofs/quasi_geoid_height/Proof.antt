@@ -6,12 +6,12 @@ use borrow.Author.Needs.{needs}
 use Rattle.opened.proofs.quasi_geoid_height.Statement.{statement}
 use Rattle.opened.proofs.quasi_geoid_height.Tie as tie
 
-height-over-nodes-requires : tie.Need-height-over-nodes-requires
-height-over-nodes-requires c κs = sym (c .before .before .before .«open» .ensures) ∙ ap openedOf (c .before .n .given .1)
+height-over-image-requires : tie.Need-height-over-image-requires
+height-over-image-requires c κs = sym (c .before .before .before .«open» .ensures) ∙ ap (openedOf _) (c .before .s .given .1)
 
 returns-2 : tie.Need-returns-2
 unfolding quasiGeoidHeight
-returns-2 c = rw (sym (c .before .before .before .«open» .ensures) ∙ ap openedOf (c .before .r .given .1))
+returns-2 c = rw (sym (c .before .before .before .«open» .ensures) ∙ ap (openedOf _) (c .before .r .given .1))
 
 pub quasi-geoid-height-spec : {M : Type 1} → statement M
 quasi-geoid-height-spec =
@@ -19,7 +19,7 @@ quasi-geoid-height-spec =
     (tie.spec
     (λ c κs. search needs)
     (λ c. search needs)
-    height-over-nodes-requires
+    height-over-image-requires
     (λ c. search needs)
     (λ c. search needs)
     returns-2)

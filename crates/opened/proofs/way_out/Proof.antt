@@ -10,7 +10,7 @@ use Rattle.rules.specs.Answers.{values}
 use Rattle.rules.specs.Image.{gridOf, layoutFor}
 use Rattle.rules.specs.Questions.{opening, openedOf}
 use Rattle.rules.specs.Ways.{sourceOf, convertOver, convert, answerOf}
-use Rattle.rules.proofs.Opening.{opened, first-node}
+use Rattle.rules.proofs.Opening.{opened}
 use borrow.Author.Needs.{needs}
 use Rattle.opened.proofs.way_out.Statement.{statement}
 use Rattle.opened.proofs.way_out.Tie as tie
@@ -19,15 +19,15 @@ use Rattle.opened.proofs.way_out.Tie as tie
 abbrev start : tie.After-open → tie.Start
 start c = c .before .before
 
-found : (c : tie.After-n) → opening (now (start (c .before .before) .args .bytes)) ≡ values (layoutFor (c .n .given .0 .0))
-found c = sym (c .before .before .«open» .ensures) ∙ ap openedOf (c .n .given .1)
+found : (c : tie.After-s) → let b = now (start (c .before .before) .args .bytes) in opening b ≡ values (layoutFor b (c .s .given .0 .0))
+found c = sym (c .before .before .«open» .ensures) ∙ ap (openedOf _) (c .s .given .1)
 
-layout-for-requires : tie.Need-layout-for-requires
-layout-for-requires c κs = omega (arith, first-node _ _ (found (c .before)))
+layout-of-requires : tie.Need-layout-of-requires
+layout-of-requires c κs = found (c .before)
 
 -- the layout that is handed on
-laid : (c : tie.After-layout-for) → opening (now (start (c .before .before .before .before) .args .bytes)) ≡ values (c .layout-for .result)
-laid c = found (c .before .before) ∙ ap values (sym (c .layout-for .ensures))
+laid : (c : tie.After-layout-of) → opening (now (start (c .before .before .before .before) .args .bytes)) ≡ values (c .layout-of .result)
+laid c = found (c .before .before) ∙ ap values (sym (c .layout-of .ensures))
 
 out-through-requires : tie.Need-out-through-requires
 out-through-requires c κs = opened _ _ (laid c)
@@ -35,7 +35,7 @@ out-through-requires c κs = opened _ _ (laid c)
 -- what the call tells, at the fix that was made of the point and the height
 told : (c : tie.After-out-through) →
     let s = start (c .before .before .before .before .before) in
-    let grid = gridOf (now (s .args .bytes)) (c .before .layout-for .result) in
+    let grid = gridOf (now (s .args .bytes)) (c .before .layout-of .result) in
     answerOf (c .out-through .result) ≡ convertOver way.Out (sourceOf grid) (s .args .p) (toZ w64 (ofZ w64 (s .args .height)))
 told c = c .out-through .ensures
 
@@ -48,7 +48,7 @@ returns c =
 
 returns-2 : tie.Need-returns-2
 unfolding convert
-returns-2 c = rw (sym (c .before .before .before .«open» .ensures) ∙ ap openedOf (c .before .r .given .1))
+returns-2 c = rw (sym (c .before .before .before .«open» .ensures) ∙ ap (openedOf _) (c .before .r .given .1))
 
 pub way-out-spec : {M : Type 1} → statement M
 way-out-spec =
@@ -56,7 +56,7 @@ way-out-spec =
     (tie.spec
     (λ c κs. search needs)
     (λ c. search needs)
-    layout-for-requires
+    layout-of-requires
     out-through-requires
     (λ c. search needs)
     returns

@@ -6,22 +6,23 @@ use mir.Val.{toZ, ofZ}
 use mir.Facts.{toZ-ofZ}
 use Rattle.integers.specs.Machine.{reads-back}
 use Rattle.rules.specs.Answers.{values, number, numberOf}
-use Rattle.rules.specs.Image.{Grid, gridOf}
-use Rattle.rules.specs.Lookup.{heightLookup, heightLookupOf}
-use Rattle.lookup.proofs.Found.{bounded, height-within}
+use Rattle.rules.specs.Image.{gridOf}
+use Rattle.rules.specs.Lookup.{heightLookupOf}
+use Rattle.rules.specs.Ways.{Source, sourceOf}
+use Rattle.source.proofs.Sources.{height-within}
 use borrow.Author.Needs.{needs}
 use Rattle.out.proofs.answer_at.Statement.{statement}
 use Rattle.out.proofs.answer_at.Tie as tie
 
-abbrev grid : tie.Start → Grid
-grid s = gridOf (now (s .args .image)) (s .args .l)
+abbrev source : tie.Start → Source
+source s = sourceOf (gridOf (now (s .args .image)) (s .args .l))
 
 -- the height's lookup, in each arm
-found : (c : tie.After-z) → let s = c .before .before .before .before in heightLookup (grid s) (s .args .q) ≡ values (c .z .given .0 .0)
+found : (c : tie.After-z) → let s = c .before .before .before .before in source s .height (s .args .q) ≡ values (c .z .given .0 .0)
 found c = sym (c .before .before .height-at .ensures) ∙ ap heightLookupOf (c .z .given .1)
 
 refused : (c : tie.After-r) → let s = c .before .before .before .before in
-    heightLookup (grid s) (s .args .q) ≡ number (numberOf (c .r .given .0 .0))
+    source s .height (s .args .q) ≡ number (numberOf (c .r .given .0 .0))
 refused c = sym (c .before .before .height-at .ensures) ∙ ap heightLookupOf (c .r .given .1)
 
 -- the height found is read back as it is
@@ -35,11 +36,7 @@ position-below-requires : tie.Need-position-below-requires
 position-below-requires c κs =
     let z = c .before in
     let s = z .before .before .before .before in
-    let o = s .pre .0 .layout in
-    let b = bounded (o .latitude .geometry) (s .pre .0 .point) in (
-      rw (toZ-ofZ (s .fits .height)) (s .pre .2),
-      rw (read c) (height-within (grid s) (s .args .q) _ b (o .height-geometry) (found z)),
-    )
+    (rw (toZ-ofZ (s .fits .height)) (s .pre .2), rw (read c) (height-within _ (s .pre .0) (found z)))
 
 returns : tie.Need-returns
 returns c =

@@ -16,19 +16,21 @@ use Rattle.rules.specs.Limits.{GeometryPasses}
 use Rattle.rules.specs.Lookup.{inside}
 use Rattle.rules.specs.Ways.{out}
 use Rattle.lookup.specs.Held.{heldAt, liesIn}
-use Rattle.lookup.proofs.Found.{bounded, around-runs, held-runs, held-holds, same-cell}
+use Rattle.lookup.proofs.Found.{bounded, held-runs, held-holds, same-cell}
+use Rattle.source.specs.Asked.{OpenAround}
+use Rattle.source.proofs.Sources.{cell-asked}
 use Rattle.turns.specs.declared.Turn.{Turn}
 use Rattle.turns.proofs.Turns.{onward, LeadsInside, from, one-turn, spent}
 use Rattle.out.proofs.out_from.Statement.{statement}
 use Rattle.out.proofs.out_from.Tie as tie
 
 abbrev Inv-loop : tie.InvT-loop
-Inv-loop image l p height g runs r₀ held₀ n₀ r held n =
+Inv-loop image l p height separate g runs r₀ held₀ n₀ r held n =
     let d = gridOf image l in
     (n ≤ mostEvaluations) × (inside (d .corrections) r ≡ true) × (from d p 0 p ≡ from d p n r) × (held ≡ heldAt d r)
 
 abbrev μ-loop : tie.MeasureT-loop
-μ-loop image l p height g runs r₀ held₀ n₀ r held n = mostEvaluations - n
+μ-loop image l p height separate g runs r₀ held₀ n₀ r held n = mostEvaluations - n
 
 -- the states: at the loop's test, and after an evaluation in it
 abbrev Loop : Type 0
@@ -53,7 +55,7 @@ abbrev at-test : Evaluated → Loop
 at-test c = c .before .before
 
 cell-around-requires : tie.Need-cell-around-requires Inv-loop μ-loop
-cell-around-requires c κs = let o = c .before .before .before .pre .0 in around-runs _ (o .layout) (c .runs-of .ensures) (o .point)
+cell-around-requires c κs = cell-asked (c .before .before .before .pre .0) (c .runs-of .ensures)
 
 loop-holds : tie.Need-loop-holds Inv-loop μ-loop
 loop-holds c =
@@ -112,7 +114,10 @@ cell-around-requires-2 : tie.Need-cell-around-requires-2 Inv-loop μ-loop
 cell-around-requires-2 c κs =
     let q = c .before .before .before in
     let l = at-test (q .before .before) in
-    around-runs _ (start l .pre .0 .layout) (l .before .before .runs-of .ensures) (next-inside q)
+    let s = start l in
+    let o : OpenAround (now (s .args .image)) (s .args .l) (q .q2 .given .0 .0) =
+    record { layout = s .pre .0 .layout; point = next-inside q } in
+    cell-asked o (l .before .before .runs-of .ensures)
 
 -- the next point, and the cell around it, held or read
 onto : (c : tie.Joined1 Inv-loop μ-loop) →

@@ -7,7 +7,7 @@ use Rattle.rules.specs.Answers.{values}
 use Rattle.rules.specs.Image.{layoutFor}
 use Rattle.rules.specs.Questions.{opening, openedOf}
 use Rattle.rules.specs.Check.{gridCheck}
-use Rattle.rules.proofs.Opening.{opened, first-node}
+use Rattle.rules.proofs.Opening.{opened}
 use Rattle.slopes.proofs.grid_check.Statement.{statement}
 use Rattle.slopes.proofs.grid_check.Tie as tie
 
@@ -16,21 +16,21 @@ abbrev start : tie.After-open → tie.Start
 start c = c .before .before
 
 -- an image that opened, and the layout that is handed on
-found : (c : tie.After-n) → opening (now (start (c .before .before) .args .image)) ≡ values (layoutFor (c .n .given .0 .0))
-found c = sym (c .before .before .«open» .ensures) ∙ ap openedOf (c .n .given .1)
+found : (c : tie.After-s) → let b = now (start (c .before .before) .args .image) in opening b ≡ values (layoutFor b (c .s .given .0 .0))
+found c = sym (c .before .before .«open» .ensures) ∙ ap (openedOf _) (c .s .given .1)
 
-laid : (c : tie.After-layout-for) → opening (now (start (c .before .before .before .before) .args .image)) ≡ values (c .layout-for .result)
-laid c = found (c .before .before) ∙ ap values (sym (c .layout-for .ensures))
+laid : (c : tie.After-layout-of) → opening (now (start (c .before .before .before .before) .args .image)) ≡ values (c .layout-of .result)
+laid c = found (c .before .before) ∙ ap values (sym (c .layout-of .ensures))
 
-layout-for-requires : tie.Need-layout-for-requires
-layout-for-requires c κs = omega (arith, first-node _ _ (found (c .before)))
+layout-of-requires : tie.Need-layout-of-requires
+layout-of-requires c κs = found (c .before)
 
 check-planes-requires : tie.Need-check-planes-requires
 check-planes-requires c κs = opened _ _ (laid c)
 
 returns : tie.Need-returns
 unfolding gridCheck
-returns c = rw (sym (c .before .before .before .«open» .ensures) ∙ ap openedOf (c .before .r .given .1))
+returns c = rw (sym (c .before .before .before .«open» .ensures) ∙ ap (openedOf _) (c .before .r .given .1))
 
 returns-2 : tie.Need-returns-2
 unfolding gridCheck
@@ -43,7 +43,7 @@ grid-check-spec =
     (λ c κs. search needs)
     (λ c. search needs)
     (λ c. search needs)
-    layout-for-requires
+    layout-of-requires
     check-planes-requires
     returns
     returns-2)

@@ -7,12 +7,12 @@ use Rattle.slopes.proofs.row_at.Tie as tie
 run-at-requires-2 : tie.Need-run-at-requires-2
 run-at-requires-2 c κs =
     let s = c .before in
-    (s .pre .0 .longitude, longitude-row (s .pre .0) (s .args .row) (s .pre .1))
+    (s .pre .0 .longitude, longitude-row (s .pre .0) (s .args .row) (s .pre .2))
 
 run-at-requires-3 : tie.Need-run-at-requires-3
 run-at-requires-3 c κs =
     let s = c .before .before in
-    (s .pre .0 .height, height-row (s .pre .0) (s .args .row) (s .pre .1))
+    (s .pre .0 .height, height-row (s .pre .0) (s .pre .1) (s .args .row) (s .pre .2))
 
 returns : tie.Need-returns
 returns c = λ i. record {

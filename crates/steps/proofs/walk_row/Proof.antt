@@ -1,17 +1,14 @@
--- `steps::walk_row` meets its contract. The invariant: west is the node before this column, the nodes passed so far are within question 9's
--- limits, and found has the steps to them.
-use mathlib.Core.Bool.{true}
-use mathlib.Core.Path.{_≡_, refl, sym, ap, _∙_}
+-- `steps::walk_row` meets its contract. The invariant: west is the node before this column, and found is what the walk over the columns so
+-- far leaves, whose nodes are within question 9's limits.
+use mathlib.Core.Path.{_≡_, sym, ap, _∙_}
 use Prim.Native.Nat.{_+_, _-_, _≤_}
 use native.Mathlib.Omega.{arith}
 use denote.Ref.{now}
 use borrow.Author.Needs.{needs}
 use borrow.Author.Tests.{not-true, not-false}
-use Rattle.rules.specs.Check.{every}
-use Rattle.rules.proofs.Largest.{every-more, every-missed}
-use Rattle.steps.specs.Walk.{nodeOf, nodePasses, foldUpTo, along, rowPasses, rowSteps}
+use Rattle.steps.specs.Walk.{nodeOf, nodePasses, withNodes, stepTo}
 use Rattle.steps.proofs.Readings.{node-narrow}
-use Rattle.steps.proofs.Folds.{along-more}
+use Rattle.steps.proofs.Folds.{Walked, walked-none, walked-more, walked-all, walked-missed}
 use Rattle.steps.proofs.walk_row.Statement.{statement}
 use Rattle.steps.proofs.walk_row.Tie as tie
 
@@ -19,8 +16,7 @@ abbrev Inv-loop : tie.InvT-loop
 Inv-loop image south row columns found₀ west₀ column₀ found west column =
     (column ≤ columns)
     × (west ≡ nodeOf image row (column - 1))
-    × (rowPasses image row column ≡ true)
-    × (found ≡ rowSteps image south row column found₀)
+    × Walked (λ column. nodePasses (nodeOf image row column)) (stepTo withNodes (nodeOf image south) (nodeOf image row)) found₀ column found
 
 abbrev μ-loop : tie.MeasureT-loop
 μ-loop image south row columns found₀ west₀ column₀ found west column = columns - column
@@ -28,10 +24,6 @@ abbrev μ-loop : tie.MeasureT-loop
 -- the entry, from the loop's test
 abbrev start : tie.At-loop Inv-loop μ-loop → tie.Start Inv-loop μ-loop
 start c = c .before .before .before
-
-loop-holds : tie.Need-loop-holds Inv-loop μ-loop
-unfolding every along foldUpTo
-loop-holds c = (omega arith, c .node-of .ensures, refl, refl)
 
 -- question 9, of this node
 passes : (c : tie.After-node-passes Inv-loop μ-loop) → let l = c .before .before .before in
@@ -41,8 +33,8 @@ passes c = c .node-passes .ensures ∙ ap nodePasses (c .before .node-of2 .ensur
 
 returns : tie.Need-returns Inv-loop μ-loop
 returns c =
-    let l = c .before .before .before .before in
-    rw (every-missed (start l .args .columns) _ (l .loop .column) (omega arith) (sym (passes (c .before)) ∙ not-true _ (c .if1 .taken)))
+    let l = c .before .before .before .before .loop in
+    walked-missed (l .inv .2) (omega arith) (sym (passes (c .before)) ∙ not-true _ (c .if1 .taken))
 
 with-nodes-requires : tie.Need-with-nodes-requires Inv-loop μ-loop
 with-nodes-requires c κs =
@@ -53,6 +45,9 @@ with-nodes-requires c κs =
       rw (c .node-of3 .ensures) (node-narrow _ bytes _ _),
     )
 
+add-column : tie.Need-add-column Inv-loop μ-loop
+add-column c = omega (arith, start (c .before .before .before .before .before .before) .fits .columns)
+
 loop-again : tie.Need-loop-again Inv-loop μ-loop
 loop-again c =
     let n = c .before .before .before .before in
@@ -60,16 +55,9 @@ loop-again c =
     let e : l .column + 1 - 1 ≡ l .column = omega arith in (
       omega arith,
       rw e (n .node-of2 .ensures),
-      every-more _ _ (l .inv .2) (sym (passes (c .before .before .before)) ∙ not-false _ (c .before .before .if1 .left)),
-      c .with-nodes .ensures
-          ∙ rw (l .inv .3, n .node-of2 .ensures, l .inv .1, c .before .node-of3 .ensures) (along-more _ _ (l .column) _),
+      walked-more (l .inv .2) (sym (passes (c .before .before .before)) ∙ not-false _ (c .before .before .if1 .left))
+          (c .with-nodes .ensures ∙ rw (n .node-of2 .ensures, l .inv .1, c .before .node-of3 .ensures)),
     )
-
-returns-2 : tie.Need-returns-2 Inv-loop μ-loop
-returns-2 c =
-    let l = c .before .loop in
-    let e : l .column ≡ start (c .before) .args .columns = omega arith in
-    rw (← e, l .inv .2, l .inv .3)
 
 pub walk-row-spec : {M : Type 1} → statement M
 walk-row-spec =
@@ -78,13 +66,13 @@ walk-row-spec =
     Inv-loop
     μ-loop
     (λ c κs. c .before .pre .2 0 (omega arith))
-    loop-holds
-    (λ c κs. let l = c .before in start l .pre .2 (l .loop .column) (omega arith))
+    (λ c. (omega arith, c .node-of .ensures, walked-none))
+    (λ c κs. start (c .before) .pre .2 _ (omega arith))
     (λ c κs. search needs)
     returns
-    (λ c κs. let l = c .before .before .before .before in start l .pre .1 (l .loop .column) (omega arith))
+    (λ c κs. start (c .before .before .before .before) .pre .1 _ (omega arith))
     with-nodes-requires
-    (λ c. omega arith)
+    add-column
     (λ c. omega arith)
     loop-again
-    returns-2)
+    (λ c. walked-all (c .before .loop .inv .2) (omega arith)))

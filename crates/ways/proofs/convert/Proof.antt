@@ -7,7 +7,7 @@ use Rattle.rules.specs.Answers.{values}
 use Rattle.rules.specs.Image.{layoutFor}
 use Rattle.rules.specs.Questions.{opening, openedOf}
 use Rattle.rules.specs.Ways.{convertOver, convert}
-use Rattle.rules.proofs.Opening.{opened, first-node}
+use Rattle.rules.proofs.Opening.{opened}
 use borrow.Author.Needs.{needs}
 use Rattle.ways.proofs.convert.Statement.{statement}
 use Rattle.ways.proofs.convert.Tie as tie
@@ -16,15 +16,15 @@ use Rattle.ways.proofs.convert.Tie as tie
 abbrev start : tie.After-open → tie.Start
 start c = c .before .before
 
-found : (c : tie.After-n) → opening (now (start (c .before .before) .args .image)) ≡ values (layoutFor (c .n .given .0 .0))
-found c = sym (c .before .before .«open» .ensures) ∙ ap openedOf (c .n .given .1)
+found : (c : tie.After-s) → let b = now (start (c .before .before) .args .image) in opening b ≡ values (layoutFor b (c .s .given .0 .0))
+found c = sym (c .before .before .«open» .ensures) ∙ ap (openedOf _) (c .s .given .1)
 
-layout-for-requires : tie.Need-layout-for-requires
-layout-for-requires c κs = omega (arith, first-node _ _ (found (c .before)))
+layout-of-requires : tie.Need-layout-of-requires
+layout-of-requires c κs = found (c .before)
 
 -- the layout that is handed on
-laid : (c : tie.After-layout-for) → opening (now (start (c .before .before .before .before) .args .image)) ≡ values (c .layout-for .result)
-laid c = found (c .before .before) ∙ ap values (sym (c .layout-for .ensures))
+laid : (c : tie.After-layout-of) → opening (now (start (c .before .before .before .before) .args .image)) ≡ values (c .layout-of .result)
+laid c = found (c .before .before) ∙ ap values (sym (c .layout-of .ensures))
 
 convert-over-requires : tie.Need-convert-over-requires
 convert-over-requires c κs = opened _ _ (laid c)
@@ -38,7 +38,7 @@ returns c =
 
 returns-2 : tie.Need-returns-2
 unfolding convert
-returns-2 c = rw (sym (c .before .before .before .«open» .ensures) ∙ ap openedOf (c .before .r .given .1))
+returns-2 c = rw (sym (c .before .before .before .«open» .ensures) ∙ ap (openedOf _) (c .before .r .given .1))
 
 pub convert-spec : {M : Type 1} → statement M
 convert-spec =
@@ -46,7 +46,7 @@ convert-spec =
     (tie.spec
     (λ c κs. search needs)
     (λ c. search needs)
-    layout-for-requires
+    layout-of-requires
     convert-over-requires
     (λ c. search needs)
     returns

@@ -1,42 +1,26 @@
 //! Made-up fixes: in the grid, on its bounds, node lines and half positions, just outside, where
 //! the way out leaves the bounds, and at and past question 7's limits.
 
-use super::geometry::{LATITUDE_LIMIT, LONGITUDE_LIMIT};
+use super::axis::Axis;
 use super::grid::Grid;
 use crate::random::Random;
-
-/// One axis of a grid.
-struct Axis {
-    low: i64,
-    spacing: i64,
-    lines: i64,
-    limit: i64,
-}
-
-impl Axis {
-    fn high(&self) -> i64 {
-        self.low + (self.lines - 1) * self.spacing
-    }
-
-    fn any_line(&self, random: &mut Random) -> i64 {
-        self.low + random.between(0, self.lines - 1) * self.spacing
-    }
-}
+use reference::Geometry;
 
 /// A fix of any kind: latitude, longitude, height.
-pub fn any_fix(random: &mut Random, grid: &Grid) -> [i64; 3] {
-    let node = random.below(grid.nodes.len() as u64) as usize;
-    let [latitude_correction, longitude_correction, _] = grid.nodes[node];
+pub fn any_fix(random: &mut Random, grid: &Grid<3>) -> [i64; 3] {
+    let [latitude_correction, longitude_correction, _] = grid.nodes[grid.any_node(random)];
+    let latitude = Axis::latitude(&grid.geometry);
+    let longitude = Axis::longitude(&grid.geometry);
     [
-        any_angle(random, &latitude_axis(grid), latitude_correction.into()),
-        any_angle(random, &longitude_axis(grid), longitude_correction.into()),
+        any_angle(random, &latitude, latitude_correction.into()),
+        any_angle(random, &longitude, longitude_correction.into()),
         any_height(random),
     ]
 }
 
 /// A fix somewhere in the bounds, its height in limits.
-pub fn inner_fix(random: &mut Random, grid: &Grid) -> [i64; 3] {
-    let (latitude, longitude) = (latitude_axis(grid), longitude_axis(grid));
+pub fn inner_fix(random: &mut Random, geometry: &Geometry) -> [i64; 3] {
+    let (latitude, longitude) = (Axis::latitude(geometry), Axis::longitude(geometry));
     [
         random.between(latitude.low, latitude.high()),
         random.between(longitude.low, longitude.high()),
@@ -44,26 +28,8 @@ pub fn inner_fix(random: &mut Random, grid: &Grid) -> [i64; 3] {
     ]
 }
 
-fn latitude_axis(grid: &Grid) -> Axis {
-    Axis {
-        low: grid.trailer.south,
-        spacing: grid.trailer.latitude_spacing.into(),
-        lines: grid.trailer.rows.into(),
-        limit: LATITUDE_LIMIT,
-    }
-}
-
-fn longitude_axis(grid: &Grid) -> Axis {
-    Axis {
-        low: grid.trailer.west,
-        spacing: grid.trailer.longitude_spacing.into(),
-        lines: grid.trailer.columns.into(),
-        limit: LONGITUDE_LIMIT,
-    }
-}
-
 /// An angle along one axis, where some node has the given correction.
-fn any_angle(random: &mut Random, axis: &Axis, correction: i64) -> i64 {
+pub fn any_angle(random: &mut Random, axis: &Axis, correction: i64) -> i64 {
     let (low, high) = (axis.low, axis.high());
     match random.below(100) {
         0..40 => random.between(low, high),
@@ -90,7 +56,7 @@ fn leaving(random: &mut Random, axis: &Axis, correction: i64) -> i64 {
 }
 
 /// A height in limits most often, or at or past question 7's limits for either way.
-fn any_height(random: &mut Random) -> i64 {
+pub fn any_height(random: &mut Random) -> i64 {
     match random.below(100) {
         0..85 => random.around_zero(100_000_000),
         85..90 => random.sign() * (100_000_000 + random.between(-1, 1)),

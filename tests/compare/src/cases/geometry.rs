@@ -1,16 +1,16 @@
-//! Made-up geometry that answers yes to questions 2 to 6: small and large grids, thin ones,
+//! Made-up geometry that answers yes to questions 3 to 5: small and large grids, thin ones,
 //! spacings at their limits, bounds at the poles and at ±180 degrees.
 
 use crate::random::Random;
-use reference::Trailer;
+use reference::Geometry;
 
 pub const LATITUDE_LIMIT: i64 = 90_000_000_000;
 pub const LONGITUDE_LIMIT: i64 = 180_000_000_000;
-const SPACING_LIMIT: i64 = 100_000_000;
-const LINES_LIMIT: i64 = 4_096;
+pub const SPACING_LIMIT: i64 = 100_000_000;
+pub const LINES_LIMIT: i64 = 4_096;
 
-/// A trailer over any fit geometry.
-pub fn any_geometry(random: &mut Random) -> Trailer {
+/// Any fit geometry.
+pub fn any_geometry(random: &mut Random) -> Geometry {
     let (rows, columns) = size(random);
     let latitude_spacing = any_spacing(random, rows, LATITUDE_LIMIT);
     let longitude_spacing = any_spacing(random, columns, LONGITUDE_LIMIT);
@@ -21,19 +21,17 @@ pub fn any_geometry(random: &mut Random) -> Trailer {
     )
 }
 
-/// A trailer with the given spacings and number of rows and columns, at any fit place.
-pub fn placed(random: &mut Random, spacings: [i64; 2], lines: [i64; 2]) -> Trailer {
+/// A geometry with the given spacings and number of rows and columns, at any fit place.
+pub fn placed(random: &mut Random, spacings: [i64; 2], lines: [i64; 2]) -> Geometry {
     let south = lower_bound(random, (lines[0] - 1) * spacings[0], LATITUDE_LIMIT);
     let west = lower_bound(random, (lines[1] - 1) * spacings[1], LONGITUDE_LIMIT);
-    Trailer {
+    Geometry {
         south,
         west,
         latitude_spacing: spacings[0] as u32,
         longitude_spacing: spacings[1] as u32,
         rows: lines[0] as u32,
         columns: lines[1] as u32,
-        back: (12 * lines[0] * lines[1] + 40) as u32,
-        edition: 1,
     }
 }
 

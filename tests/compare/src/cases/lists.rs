@@ -4,21 +4,16 @@
 use super::fixes::{any_fix, inner_fix};
 use super::grid::{any_grid, grid_to_move_in, Grid};
 use crate::random::Random;
+use crate::steps::{cell_of, points_on_the_way};
 use crate::{Call, List, Way};
-use reference::{lookup, open_image, Point};
+use reference::{open_image, Image, Point};
 
 /// A list out over any fit image.
 pub fn list_out(random: &mut Random) -> Call {
     let mut grid = grid_to_move_in(random);
     if random.chance(30) {
-        let fix = fix_with_a_long_way(random, &grid);
-        spoil_on_the_way(random, &mut grid, fix);
-        return Call::List(List {
-            way: Way::Out,
-            image: grid.image(),
-            fixes: fix.to_vec(),
-            answers_length: 5,
-        });
+        let fix = spoil_on_the_way(random, &mut grid);
+        return list_of_one(fix, grid.image());
     }
     let image = grid.image();
     list_over(random, Way::Out, &grid, image)
@@ -32,15 +27,38 @@ pub fn list_back(random: &mut Random) -> Call {
 }
 
 /// A list over an image, with fixes that suit the grid.
-pub fn list_over(random: &mut Random, way: Way, grid: &Grid, image: Vec<u8>) -> Call {
+pub fn list_over(random: &mut Random, way: Way, grid: &Grid<3>, image: Vec<u8>) -> Call {
+    let any = |random: &mut Random| any_fix(random, grid);
+    let inner = |random: &mut Random| inner_fix(random, &grid.geometry);
+    list_of(random, way, image, any, inner)
+}
+
+/// A list out of one fix.
+pub fn list_of_one(fix: [i64; 3], image: Vec<u8>) -> Call {
+    Call::List(List {
+        way: Way::Out,
+        image,
+        fixes: fix.to_vec(),
+        answers_length: 5,
+    })
+}
+
+/// A list of some length: its fixes of any kind, or all of them inner ones.
+pub fn list_of(
+    random: &mut Random,
+    way: Way,
+    image: Vec<u8>,
+    any_fix: impl Fn(&mut Random) -> [i64; 3],
+    inner_fix: impl Fn(&mut Random) -> [i64; 3],
+) -> Call {
     let length = random.pick(&[0, 1, 1, 2, 3, 4, 5, 6, 8, 10, 24]);
     let inner = random.chance(30);
     let mut fixes: Vec<i64> = (0..length)
         .flat_map(|_| {
             if inner {
-                inner_fix(random, grid)
+                inner_fix(random)
             } else {
-                any_fix(random, grid)
+                any_fix(random)
             }
         })
         .collect();
@@ -69,24 +87,39 @@ fn other_length(random: &mut Random, length: usize) -> usize {
     random.pick(&choices)
 }
 
+/// Makes one node unfit in a cell on the way out from a fix, which is given.
+fn spoil_on_the_way(random: &mut Random, grid: &mut Grid<3>) -> [i64; 3] {
+    let bytes = grid.image();
+    let image = open_image(&bytes).expect("a fit image");
+    let inner = |random: &mut Random| inner_fix(random, &grid.geometry);
+    let fix = fix_with_a_long_way(random, &image, inner);
+    let (row, column) = node_on_the_way(random, &cells_on_the_way(&image, fix));
+    let node = grid.index(row, column);
+    grid.spoil(random, node);
+    fix
+}
+
 /// A fix whose way out can be looked up as far as p5 and changes cell in its last step, if a few
 /// draws find one.
-fn fix_with_a_long_way(random: &mut Random, grid: &Grid) -> [i64; 3] {
-    let mut fix = inner_fix(random, grid);
+pub fn fix_with_a_long_way(
+    random: &mut Random,
+    image: &Image,
+    inner_fix: impl Fn(&mut Random) -> [i64; 3],
+) -> [i64; 3] {
+    let mut fix = inner_fix(random);
     for _ in 0..6 {
-        let cells = cells_on_the_way(grid, fix);
+        let cells = cells_on_the_way(image, fix);
         if cells.len() == 6 && cells[4] != cells[5] {
             break;
         }
-        fix = inner_fix(random, grid);
+        fix = inner_fix(random);
     }
     fix
 }
 
-/// Makes one node unfit in the cell of pk, for some k that the way out from the fix comes to,
-/// the last one often: a node that no earlier cell has, if there is one.
-fn spoil_on_the_way(random: &mut Random, grid: &mut Grid, fix: [i64; 3]) {
-    let cells = cells_on_the_way(grid, fix);
+/// Row and column of a node of one of the cells, the last one often: a node that no earlier cell
+/// has, if there is one.
+pub fn node_on_the_way(random: &mut Random, cells: &[(i64, i64)]) -> (i64, i64) {
     let k = if random.chance(50) {
         cells.len() - 1
     } else {
@@ -98,13 +131,11 @@ fn spoil_on_the_way(random: &mut Random, grid: &mut Grid, fix: [i64; 3]) {
         .into_iter()
         .filter(|node| !used.contains(node))
         .collect();
-    let (row, column) = if unused.is_empty() {
+    if unused.is_empty() {
         random.pick(&own)
     } else {
         random.pick(&unused)
-    };
-    let node = grid.index(row, column);
-    grid.spoil(random, node);
+    }
 }
 
 /// The rows and columns of a cell's four nodes.
@@ -117,26 +148,18 @@ fn corners((row, column): (i64, i64)) -> [(i64, i64); 4] {
     ]
 }
 
-/// The cells of p0, p1 and on to p5, as far as they can be looked up.
-fn cells_on_the_way(grid: &Grid, fix: [i64; 3]) -> Vec<(i64, i64)> {
-    let image = grid.image();
-    let image = open_image(&image).expect("a fit image");
-    let given = Point {
+/// The cells of p0, p1 and on to p5 in the correction grid, as far as they can be looked up.
+pub fn cells_on_the_way(image: &Image, fix: [i64; 3]) -> Vec<(i64, i64)> {
+    points_on_the_way(image, point_of(fix))
+        .into_iter()
+        .map(|point| cell_of(image.correction_geometry(), point))
+        .collect()
+}
+
+/// The point of a fix.
+pub fn point_of(fix: [i64; 3]) -> Point {
+    Point {
         latitude: fix[0].into(),
         longitude: fix[1].into(),
-    };
-    let mut here = given;
-    let mut cells = Vec::new();
-    while cells.len() < 6 && image.contains(here) {
-        let (latitude, longitude) = image.places(here);
-        cells.push((latitude.cell as i64, longitude.cell as i64));
-        let Ok([latitude, longitude, _]) = lookup(&image, here) else {
-            break;
-        };
-        here = Point {
-            latitude: given.latitude - latitude,
-            longitude: given.longitude - longitude,
-        };
     }
-    cells
 }

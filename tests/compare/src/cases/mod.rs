@@ -1,11 +1,14 @@
-//! The made-up calls: each follows from a seed and an index alone.
+//! The made-up calls: each follows from a seed and an index alone. Here those of edition 1, with
+//! what edition 2's, in `two_grids`, share with them.
 
+mod axis;
 mod damage;
 mod fixes;
 mod geometry;
 mod grid;
 mod lists;
 mod notations;
+pub mod two_grids;
 pub mod values;
 
 use crate::random::Random;
@@ -52,7 +55,7 @@ fn largest_grid_call(random: &mut Random) -> Call {
 }
 
 /// The check or a list over an image, with fixes that suit the grid it was made from.
-fn any_call_over(random: &mut Random, grid: &Grid, image: Vec<u8>) -> Call {
+fn any_call_over(random: &mut Random, grid: &Grid<3>, image: Vec<u8>) -> Call {
     match random.below(3) {
         0 => Call::GridCheck { image },
         1 => lists::list_over(random, Way::Out, grid, image),

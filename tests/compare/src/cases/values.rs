@@ -2,10 +2,12 @@
 //! the library still weighs with one division.
 
 use crate::random::Random;
-use reference::{Node, Trailer};
+use reference::Geometry;
 
 /// The limits of question 9: latitude correction, longitude correction, height.
 pub const LIMITS: [i64; 3] = [10_000_000, 10_000_000, 1_000_000];
+/// The height's place among the three values.
+pub const HEIGHT: usize = 2;
 
 /// How the values of one kind lie over a grid.
 #[derive(Clone, Copy)]
@@ -43,40 +45,49 @@ pub fn any_manner(random: &mut Random) -> Manner {
 /// All nodes of a grid, the manner chosen for each of the three values.
 pub fn nodes(
     random: &mut Random,
-    trailer: &Trailer,
+    geometry: &Geometry,
     mut manner: impl FnMut(&mut Random) -> Manner,
-) -> Vec<Node> {
-    let mut nodes = vec![[0; 3]; trailer.rows as usize * trailer.columns as usize];
+) -> Vec<[i32; 3]> {
+    let mut nodes = vec![[0; 3]; geometry.nodes() as usize];
     for value in 0..3 {
         let chosen = manner(random);
-        let plane = plane(random, trailer, value, chosen);
+        let plane = plane(random, geometry, value, chosen);
         for (node, of_plane) in nodes.iter_mut().zip(plane) {
-            node[value] = of_plane.clamp(-LIMITS[value], LIMITS[value]) as i32;
+            node[value] = of_plane;
         }
     }
     nodes
 }
 
-/// One value at all nodes; what lies past the limits is cut off by the caller.
-fn plane(random: &mut Random, trailer: &Trailer, value: usize, manner: Manner) -> Vec<i64> {
-    let length = trailer.rows as usize * trailer.columns as usize;
-    let reach = reach(trailer, value);
+/// One value at all nodes, within its limit.
+pub fn plane(random: &mut Random, geometry: &Geometry, value: usize, manner: Manner) -> Vec<i32> {
+    let limit = LIMITS[value];
+    unlimited_plane(random, geometry, value, manner)
+        .into_iter()
+        .map(|it| it.clamp(-limit, limit) as i32)
+        .collect()
+}
+
+/// One value at all nodes, at times past its limit.
+fn unlimited_plane(
+    random: &mut Random,
+    geometry: &Geometry,
+    value: usize,
+    manner: Manner,
+) -> Vec<i64> {
+    let length = geometry.nodes() as usize;
+    let reach = reach(geometry, value);
     let limit = LIMITS[value];
     match manner {
-        Manner::Constant => {
-            let around = random.around_zero(reach);
-            let constant =
-                random.pick(&[0, 1, -1, 2, limit, -limit, around, around, around, around]);
-            vec![constant; length]
-        }
+        Manner::Constant => vec![any_constant(random, reach, limit); length],
         Manner::Smooth => {
             let share = random.between(0, 100);
-            sum_of_walks(random, trailer, reach, [share, 100 - share])
+            sum_of_walks(random, geometry, reach, [share, 100 - share])
         }
         Manner::Steep => {
             let slope = 100 * random.pick(&[2, 5, 10, 20, 30, 50, 70, 90, 110]);
             let slopes = random.pick(&[[slope, 0], [0, slope], [slope / 2, slope / 2]]);
-            sum_of_walks(random, trailer, reach, slopes)
+            sum_of_walks(random, geometry, reach, slopes)
         }
         Manner::Rough => {
             let reach = random.pick(&[1, 2, 5, 100, reach, reach, limit]);
@@ -94,23 +105,33 @@ fn plane(random: &mut Random, trailer: &Trailer, value: usize, manner: Manner) -
     }
 }
 
+fn any_constant(random: &mut Random, reach: i64, limit: i64) -> i64 {
+    let around = random.around_zero(reach);
+    random.pick(&[0, 1, -1, 2, limit, -limit, around, around, around, around])
+}
+
 /// How large a value may be for a point in the middle half of the grid to stay in its bounds.
-fn reach(trailer: &Trailer, value: usize) -> i64 {
+fn reach(geometry: &Geometry, value: usize) -> i64 {
     let extents = [
-        i64::from(trailer.rows - 1) * i64::from(trailer.latitude_spacing),
-        i64::from(trailer.columns - 1) * i64::from(trailer.longitude_spacing),
+        i64::from(geometry.rows - 1) * i64::from(geometry.latitude_spacing),
+        i64::from(geometry.columns - 1) * i64::from(geometry.longitude_spacing),
         i64::MAX,
     ];
     LIMITS[value].min(extents[value] / 4)
 }
 
 /// A walk by row plus a walk by column; the slopes, in ten-thousandths, bound their steps.
-fn sum_of_walks(random: &mut Random, trailer: &Trailer, reach: i64, slopes: [i64; 2]) -> Vec<i64> {
-    let latitude_step = slopes[0] * i64::from(trailer.latitude_spacing) / 10_000;
-    let longitude_step = slopes[1] * i64::from(trailer.longitude_spacing) / 10_000;
+fn sum_of_walks(
+    random: &mut Random,
+    geometry: &Geometry,
+    reach: i64,
+    slopes: [i64; 2],
+) -> Vec<i64> {
+    let latitude_step = slopes[0] * i64::from(geometry.latitude_spacing) / 10_000;
+    let longitude_step = slopes[1] * i64::from(geometry.longitude_spacing) / 10_000;
     let start = random.around_zero(reach);
-    let by_row = walk(random, trailer.rows, latitude_step, start);
-    let by_column = walk(random, trailer.columns, longitude_step, 0);
+    let by_row = walk(random, geometry.rows, latitude_step, start);
+    let by_column = walk(random, geometry.columns, longitude_step, 0);
     by_row
         .iter()
         .flat_map(|row| by_column.iter().map(move |column| row + column))

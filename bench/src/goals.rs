@@ -1,0 +1,95 @@
+//! The goals, and whether the measurements meet them.
+
+use crate::plan::SIZE_OF_LENGTHS;
+use crate::speeds::{Conversions, Four};
+use crate::table::{size_words, Measured};
+use std::fmt::Write;
+
+/// A ratio that is to be at least so much.
+struct Goal {
+    words: String,
+    measured: f64,
+    wanted: f64,
+}
+
+/// Places in a `Four`.
+const LIBRARY: usize = 0;
+const PLAIN: usize = 1;
+const FLOATING: usize = 2;
+const PROJ: usize = 3;
+
+pub fn write(editions: &[Measured; 2]) -> String {
+    let mut text = String::from("\n## Goals\n\ngoal | measured | |\n---|---:|---|\n");
+    let told = |met: bool| if met { "met" } else { "missed" };
+    let goals = both_editions(editions).into_iter();
+    for goal in goals.chain(beside_floating(&editions[0])) {
+        let (words, measured, wanted) = (goal.words, goal.measured, goal.wanted);
+        let met = told(measured >= wanted);
+        let _ = writeln!(
+            text,
+            "{words} is at least {wanted} | {measured:.2} | {met} |"
+        );
+    }
+    let growth = largest(editions.iter().map(growth));
+    let words = "instructions of a fix: most / least over an edition's grid sizes is below 1.01";
+    let _ = writeln!(text, "{words} | {growth:.3} | {} |", told(growth < 1.01));
+    text
+}
+
+/// The goals over all rows of both editions.
+fn both_editions(editions: &[Measured; 2]) -> [Goal; 3] {
+    let conversions = |other: usize| {
+        let rows = editions.iter().flat_map(|it| {
+            let speeds = &it.speeds;
+            let near = speeds.by_size.iter().chain(&speeds.by_length);
+            near.chain(&speeds.wide)
+        });
+        least(rows.flat_map(move |it| [it.out, it.back].map(|four| four[LIBRARY] / four[other])))
+    };
+    let checks = editions.iter().flat_map(|it| &it.speeds.checks);
+    let goal = |words: &str, measured: f64, wanted: f64| Goal {
+        words: words.to_string(),
+        measured,
+        wanted,
+    };
+    [
+        goal("conversions: least library / i128", conversions(PLAIN), 1.0),
+        goal(
+            "grid check: least library / i128",
+            least(checks.map(|[library, plain]| library / plain)),
+            1.0,
+        ),
+        goal("conversions: least library / PROJ", conversions(PROJ), 3.0),
+    ]
+}
+
+/// The goals beside f64, of edition 1 on one grid.
+fn beside_floating(first: &Measured) -> [Goal; 2] {
+    let row = first
+        .plan
+        .sizes
+        .iter()
+        .position(|it| *it == SIZE_OF_LENGTHS);
+    let row: &Conversions = &first.speeds.by_size[row.expect("that size is among the sizes")];
+    let size = size_words(SIZE_OF_LENGTHS);
+    let goal = |way: &str, four: Four, wanted: f64| Goal {
+        words: format!("{way}, edition 1, {size}: library / f64"),
+        measured: four[LIBRARY] / four[FLOATING],
+        wanted,
+    };
+    [goal("out", row.out, 0.9), goal("back", row.back, 0.6)]
+}
+
+/// The library's most instructions of a fix over an edition's grid sizes, to its least.
+fn growth(measured: &Measured) -> f64 {
+    let instructions = || measured.counts.by_size.iter().map(|it| it[LIBRARY] as f64);
+    largest(instructions()) / least(instructions())
+}
+
+fn least(values: impl Iterator<Item = f64>) -> f64 {
+    values.fold(f64::INFINITY, f64::min)
+}
+
+fn largest(values: impl Iterator<Item = f64>) -> f64 {
+    values.fold(0.0, f64::max)
+}

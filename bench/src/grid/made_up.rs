@@ -1,0 +1,121 @@
+//! Made-up grids of either edition.
+
+use super::{Edition, Geometry, Grid};
+
+/// A grid that passes the grid check, with spacings of 0.0125 and 0.02 degrees around 52 degrees
+/// north and 5 degrees east. Its values are some 0.00095 and 0.0005 degrees and 43 m, with an
+/// uneven part that differs from node to node. In edition 2 the heights cover its bounds.
+pub fn national(edition: Edition, rows: u32, columns: u32) -> Grid {
+    let mut geometry = spaced(rows, columns);
+    geometry.south = 52_000_000_000 - geometry.height() / 2;
+    geometry.west = 5_000_000_000 - geometry.width() / 2;
+    let heights = own_heights(edition, &geometry);
+    Grid::new(geometry, heights, uneven_correction, uneven_height)
+}
+
+/// Such a grid of edition 2 with heights spaced by 0.02 and 0.025 degrees: their cells are wider
+/// than 2^48 nd², so the library does not weigh them as near corners.
+pub fn wide_heights(rows: u32, columns: u32) -> Grid {
+    let geometry = national(Edition::First, rows, columns).corrections;
+    let heights = covering(&geometry, 20_000_000, 25_000_000);
+    Grid::new(geometry, Some(heights), uneven_correction, uneven_height)
+}
+
+/// A grid of edition 2 that passes the grid check, of 64 by 64 nodes as above, whose heights cover
+/// its middle alone.
+pub fn narrow_heights() -> Grid {
+    let corrections = Geometry {
+        south: 52_000_000_000,
+        west: 5_000_000_000,
+        ..spaced(64, 64)
+    };
+    let heights = Geometry {
+        south: 52_123_456_789,
+        west: 5_123_456_789,
+        latitude_spacing: 17_000_000,
+        longitude_spacing: 23_000_000,
+        rows: 33,
+        columns: 49,
+    };
+    Grid::new(corrections, Some(heights), uneven_correction, uneven_height)
+}
+
+/// A grid of a size, with all values zero.
+pub fn zeros(edition: Edition, rows: u32, columns: u32) -> Grid {
+    let geometry = spaced(rows, columns);
+    Grid::of_zeros(geometry, own_heights(edition, &geometry))
+}
+
+/// A grid of 21 by 21 nodes on which the way out from the middle has the given count, 1 to 5. The
+/// latitude correction rises by a hundredth of the spacing from row to row, the most that the
+/// grid check lets pass. In edition 2 the heights have one and a half times the spacings.
+pub fn with_count(edition: Edition, count: u32) -> Grid {
+    let middle_correction = [0, 50, 1_000, 100_000, 9_000_000][count as usize - 1];
+    let geometry = Geometry {
+        south: 52_000_000_000,
+        west: 5_000_000_000,
+        latitude_spacing: 1_000_000,
+        longitude_spacing: 1_000_000,
+        rows: 21,
+        columns: 21,
+    };
+    let heights = match edition {
+        Edition::First => None,
+        Edition::Second => Some(covering(&geometry, 1_500_000, 1_500_000)),
+    };
+    let correction = |row, _| [middle_correction + 10_000 * (row as i32 - 10), 0];
+    Grid::new(geometry, heights, correction, |_, _| 430_000)
+}
+
+/// The geometry from zero on with spacings of 0.0125 and 0.02 degrees.
+fn spaced(rows: u32, columns: u32) -> Geometry {
+    Geometry {
+        south: 0,
+        west: 0,
+        latitude_spacing: 12_500_000,
+        longitude_spacing: 20_000_000,
+        rows,
+        columns,
+    }
+}
+
+/// The heights' own geometry in edition 2: spacings of 0.01 and 0.0125 degrees, or the
+/// corrections' geometry where rows or columns would be too many.
+pub fn own_heights(edition: Edition, corrections: &Geometry) -> Option<Geometry> {
+    if edition == Edition::First {
+        return None;
+    }
+    let dense = covering(corrections, 10_000_000, 12_500_000);
+    let fits = dense.rows <= 4_096 && dense.columns <= 4_096;
+    Some(if fits { dense } else { *corrections })
+}
+
+/// The smallest geometry of these spacings around the same middle that covers the bounds.
+fn covering(bounds: &Geometry, latitude_spacing: u32, longitude_spacing: u32) -> Geometry {
+    let count = |length: i64, spacing: u32| (length as u64).div_ceil(spacing.into()) as u32 + 1;
+    let mut geometry = Geometry {
+        latitude_spacing,
+        longitude_spacing,
+        rows: count(bounds.height(), latitude_spacing),
+        columns: count(bounds.width(), longitude_spacing),
+        ..*bounds
+    };
+    geometry.south -= (geometry.height() - bounds.height()) / 2;
+    geometry.west -= (geometry.width() - bounds.width()) / 2;
+    geometry
+}
+
+fn uneven_correction(row: u32, column: u32) -> [i32; 2] {
+    let uneven = |value| uneven(row, column, value);
+    [950_000 + uneven(0), -500_000 + uneven(1)]
+}
+
+fn uneven_height(row: u32, column: u32) -> i32 {
+    430_000 + uneven(row, column, 2)
+}
+
+/// A number from 0 to 19,999 that is different for each node and value, without a pattern.
+fn uneven(row: u32, column: u32, value: u64) -> i32 {
+    let place = (u64::from(row) << 32 | u64::from(column)).wrapping_mul(3) + value;
+    (crate::fixes::mixed(place) % 20_000) as i32
+}

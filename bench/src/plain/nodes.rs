@@ -1,0 +1,101 @@
+//! The nodes of one grid, its cells and their bilinear values.
+
+use super::axis::Axis;
+use super::Number;
+use std::array;
+
+/// A point in nd.
+#[derive(Clone, Copy)]
+pub struct Point {
+    pub latitude: i64,
+    pub longitude: i64,
+}
+
+/// A grid whose nodes have so many values.
+pub struct Nodes<'a, const VALUES: usize> {
+    pub nodes: &'a [u8],
+    pub latitude: Axis,
+    pub longitude: Axis,
+}
+
+/// A point's cell: each value's four corners, south row first, the corners' weights, and the sum
+/// of the weights.
+pub struct Cell<const VALUES: usize> {
+    corners: [[i32; 4]; VALUES],
+    weights: [i64; 4],
+    area: i64,
+}
+
+/// Question 9's limit of a value: the height is the third of three, or alone.
+const fn limit(value: usize, values: usize) -> u32 {
+    if value == 2 || values == 1 {
+        1_000_000
+    } else {
+        10_000_000
+    }
+}
+
+impl<const VALUES: usize> Nodes<'_, VALUES> {
+    pub const NODE_BYTES: usize = 4 * VALUES;
+
+    pub fn holds(&self, p: Point) -> bool {
+        self.latitude.holds(p.latitude) && self.longitude.holds(p.longitude)
+    }
+
+    /// The cell of a point in the bounds, after question 9.
+    #[inline]
+    pub fn cell(&self, p: Point) -> Result<Cell<VALUES>, Number> {
+        let (row, u) = self.latitude.place(p.latitude);
+        let (column, v) = self.longitude.place(p.longitude);
+        let bytes = Self::NODE_BYTES;
+        let first = bytes * (row * self.longitude.count + column);
+        let south = &self.nodes[first..][..2 * bytes];
+        let north = &self.nodes[first + bytes * self.longitude.count..][..2 * bytes];
+        let corners: [[i32; 4]; VALUES] = array::from_fn(|value| {
+            let (west, east) = (4 * value, 4 * value + bytes);
+            let [sw, se] = [number_at(south, west), number_at(south, east)];
+            let [nw, ne] = [number_at(north, west), number_at(north, east)];
+            [sw, se, nw, ne]
+        });
+        for (value, corners) in corners.iter().enumerate() {
+            if !corners.iter().all(|corner| Self::fits(value, *corner)) {
+                return Err(9);
+            }
+        }
+        let (p, q) = (self.latitude.spacing, self.longitude.spacing);
+        let weights = [(p - u) * (q - v), (p - u) * v, u * (q - v), u * v];
+        Ok(Cell {
+            corners,
+            weights,
+            area: p * q,
+        })
+    }
+
+    /// The values of a node.
+    pub fn values(node: &[u8]) -> [i32; VALUES] {
+        array::from_fn(|value| number_at(node, 4 * value))
+    }
+
+    /// Question 9 of a node's value.
+    pub fn fits(value: usize, number: i32) -> bool {
+        number.unsigned_abs() <= limit(value, VALUES)
+    }
+}
+
+impl<const VALUES: usize> Cell<VALUES> {
+    /// One bilinear value: the exact value plus one half, rounded down.
+    #[inline]
+    pub fn value(&self, value: usize) -> i64 {
+        let mut sum = 0;
+        for (corner, weight) in self.corners[value].iter().zip(self.weights) {
+            sum += i128::from(*corner) * i128::from(weight);
+        }
+        let (dividend, divisor) = (2 * sum + i128::from(self.area), 2 * i128::from(self.area));
+        let quotient = dividend / divisor;
+        (quotient - i128::from(quotient * divisor > dividend)) as i64
+    }
+}
+
+fn number_at(bytes: &[u8], at: usize) -> i32 {
+    i32::from_le_bytes(bytes[at..at + 4].try_into().expect("four bytes"))
+}

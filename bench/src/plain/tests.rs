@@ -1,0 +1,44 @@
+//! Document 01's figures for its grid G, and figures of edition 2 on G's corrections.
+
+mod edition_1;
+mod edition_2;
+mod edition_2_images;
+
+use super::list;
+use crate::grid::{Geometry, Grid};
+use crate::Way;
+
+const SOUTH: i64 = 52_000_000_000;
+const WEST: i64 = 5_000_000_000;
+
+/// G's geometry.
+const GEOMETRY: Geometry = Geometry {
+    south: SOUTH,
+    west: WEST,
+    latitude_spacing: 1_000,
+    longitude_spacing: 1_000,
+    rows: 3,
+    columns: 3,
+};
+
+/// G's corrections.
+fn correction(row: u32, _: u32) -> [i32; 2] {
+    [100 + 4 * row as i32, -50]
+}
+
+/// The answer to a fix that is given by offsets from G's south-west corner, as offsets.
+fn answer(grid: &Grid, way: Way, [north, east, height]: [i64; 3]) -> [i64; 5] {
+    let mut five = [0; 5];
+    let fix = [SOUTH + north, WEST + east, height];
+    assert_eq!(list(way, &grid.image, &fix, &mut five), 0);
+    if five[4] == 0 {
+        five[0] -= SOUTH;
+        five[1] -= WEST;
+    }
+    five
+}
+
+/// The answer to a fix that gets a number.
+fn refused(number: i64) -> [i64; 5] {
+    [0, 0, 0, 0, number]
+}

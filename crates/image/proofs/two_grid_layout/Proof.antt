@@ -1,0 +1,44 @@
+-- `image::two_grid_layout` meets its contract: question 6 says what each back is, so where the first nodes begin.
+use mathlib.Core.Bool.{true}
+use mathlib.Core.Path.{_≡_, _∙_}
+use Prim.Native.Nat.{_+_, _-_}
+use native.Mathlib.Omega.{arith}
+use Rattle.rules.proofs.Opening.{backs-are}
+use Rattle.image.specs.Verdict.{planeAt}
+use borrow.Author.Needs.{needs}
+use Rattle.image.proofs.two_grid_layout.Statement.{statement}
+use Rattle.image.proofs.two_grid_layout.Tie as tie
+
+sub-first : tie.Need-sub-first
+sub-first c = backs-are _ _ (c .before .before .before .pre) .0 .1
+
+add-longitude : tie.Need-add-plane-at
+add-longitude c = let s = c .before .before .before .before in omega (arith, backs-are _ _ (s .pre))
+
+sub-height : tie.Need-sub-plane-at
+sub-height c = backs-are _ _ (c .before .before .before .before .before .before .pre) .1 .1
+
+returns : tie.Need-returns
+returns c =
+    let o = c .before .before in
+    let a = o .before in
+    let s = a .before .before .before .before in
+    let size = s .args .size in
+    let g = s .args .t .corrections .geometry in
+    let backs = backs-are (s .args .t) size (s .pre) in
+    let latitude = a .plane-at .ensures ∙ (λ i. planeAt g (size - backs .0 .0 i) 8) in
+    let longitude = o .plane-at2 .ensures ∙ (λ i. planeAt g (size - backs .0 .0 i + 4) 8) in
+    let height = c .plane-at3 .ensures ∙ (λ i. planeAt (s .args .t .heights .geometry) (size - backs .1 .0 i) 4) in
+    λ i. record { separate = true; latitude = latitude i; longitude = longitude i; height = height i }
+
+pub two-grid-layout-spec : {M : Type 1} → statement M
+two-grid-layout-spec =
+    tie.close
+    (tie.spec
+    sub-first
+    (λ c κs. search needs)
+    add-longitude
+    (λ c κs. search needs)
+    sub-height
+    (λ c κs. search needs)
+    returns)

@@ -1,0 +1,2 @@
+-- Laws of the source, for its functions and for the crates above.
+pub mod Sources

@@ -1,0 +1,2 @@
+-- What the contracts of the source cite.
+pub mod Asked

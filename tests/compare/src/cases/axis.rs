@@ -1,0 +1,46 @@
+//! One axis of a grid.
+
+use super::geometry::{LATITUDE_LIMIT, LONGITUDE_LIMIT};
+use crate::random::Random;
+use reference::Geometry;
+
+/// Lines at equal distances, and the limit of the angles that they stand for.
+#[derive(Clone, Copy, Debug, PartialEq, Eq)]
+pub struct Axis {
+    pub low: i64,
+    pub spacing: i64,
+    pub lines: i64,
+    pub limit: i64,
+}
+
+impl Axis {
+    pub fn latitude(geometry: &Geometry) -> Axis {
+        Axis {
+            low: geometry.south,
+            spacing: geometry.latitude_spacing.into(),
+            lines: geometry.rows.into(),
+            limit: LATITUDE_LIMIT,
+        }
+    }
+
+    pub fn longitude(geometry: &Geometry) -> Axis {
+        Axis {
+            low: geometry.west,
+            spacing: geometry.longitude_spacing.into(),
+            lines: geometry.columns.into(),
+            limit: LONGITUDE_LIMIT,
+        }
+    }
+
+    pub fn extent(&self) -> i64 {
+        (self.lines - 1) * self.spacing
+    }
+
+    pub fn high(&self) -> i64 {
+        self.low + self.extent()
+    }
+
+    pub fn any_line(&self, random: &mut Random) -> i64 {
+        self.low + random.between(0, self.lines - 1) * self.spacing
+    }
+}

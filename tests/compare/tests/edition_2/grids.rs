@@ -1,0 +1,147 @@
+//! The grids of edition 2's images: how they lie to each other, and what their heights are.
+
+use super::STREAM;
+use crate::made_up::{for_each_point, furthest_apart, images, is_half, limits_of_checked};
+use compare::cases::values::NEAR;
+use compare::Way;
+use reference::{open_image, Geometry, Grid, Image};
+use std::collections::BTreeSet;
+
+/// The correction and the height geometry of all images that open as edition 2.
+fn geometries() -> impl Iterator<Item = (Geometry, Geometry)> {
+    images(STREAM).filter_map(|image| match open_image(&image) {
+        Ok(Image::TwoGrids {
+            corrections,
+            heights,
+        }) => Some((corrections.geometry, heights.geometry)),
+        _ => None,
+    })
+}
+
+/// South, west, north, east.
+fn bounds(it: &Geometry) -> [i128; 4] {
+    [it.south.into(), it.west.into(), it.north(), it.east()]
+}
+
+/// How the height grid lies to the correction grid.
+fn relations(corrections: &Geometry, heights: &Geometry) -> Vec<&'static str> {
+    let ([south, west, north, east], [low, left, high, right]) =
+        (bounds(corrections), bounds(heights));
+    let inside = south < low && high < north && west < left && right < east;
+    let around = low < south && north < high && left < west && east < right;
+    let apart = high < south || north < low || right < west || east < left;
+    let latitude_differs = corrections.latitude_spacing != heights.latitude_spacing;
+    let longitude_differs = corrections.longitude_spacing != heights.longitude_spacing;
+    let same_bounds = bounds(corrections) == bounds(heights);
+    let other_spacings = latitude_differs && longitude_differs;
+    let events = [
+        ("both spacings differ", other_spacings),
+        ("the same", corrections == heights),
+        ("the same bounds", same_bounds && other_spacings),
+        ("smaller", inside),
+        ("larger", around),
+        ("elsewhere", apart),
+        (
+            "elsewhere by 1 nd",
+            apart && (low == north + 1 || high == south - 1),
+        ),
+        ("overlapping", !apart && south < low && north < high),
+        ("a bound in common", low == north || left == east),
+        ("more nodes", heights.nodes() > corrections.nodes()),
+        ("fewer nodes", heights.nodes() < corrections.nodes()),
+    ];
+    events
+        .into_iter()
+        .filter(|it| it.1)
+        .map(|it| it.0)
+        .collect()
+}
+
+#[test]
+fn height_grids_lie_to_correction_grids_in_every_relation() {
+    let mut met = BTreeSet::new();
+    for (corrections, heights) in geometries() {
+        met.extend(relations(&corrections, &heights));
+    }
+    assert_eq!(met.len(), 11, "{met:?}");
+}
+
+#[test]
+fn exact_halves_of_both_signs_occur_for_heights_on_a_grid_of_their_own() {
+    let mut halves = BTreeSet::new();
+    for_each_point(STREAM, Way::Back, |image, point| {
+        let is_own = image.correction_geometry() != image.height_geometry();
+        match image.exact_height(point) {
+            Ok(exact) if is_own && is_half(exact) => {
+                halves.insert(exact.parts().0.signum());
+            }
+            _ => {}
+        }
+    });
+    assert_eq!(halves.len(), 2, "{halves:?}");
+}
+
+/// Both sides of the limits within which the library weighs with one division, by the height
+/// grid's own cells.
+#[test]
+fn heights_lie_near_each_other_and_far_apart() {
+    let mut met = BTreeSet::new();
+    for_each_point(STREAM, Way::Back, |image, point| {
+        let Image::TwoGrids { heights, .. } = image else {
+            return;
+        };
+        if image.height(point).is_err() {
+            return;
+        }
+        let (row, column) = heights.geometry.places(point);
+        let corners = heights.corners(row.cell, column.cell).concat().concat();
+        let beyond = furthest_apart(corners.into_iter()) - NEAR;
+        let (p, q) = heights.geometry.spacings();
+        met.insert((beyond.clamp(-1, 2), p * q <= 1 << 48));
+    });
+    assert_eq!(met.len(), 4 * 2, "{met:?}");
+}
+
+#[test]
+fn checked_height_grids_reach_the_limits_of_the_geometry_and_pass_with_steps() {
+    let met = limits_of_checked(STREAM, |image| *image.height_geometry());
+    assert_eq!(met.len(), 10, "{met:?}");
+}
+
+/// For each value of a grid's nodes which of its limits are met: at −1 and 1 the limit of that
+/// sign, at −2 and 2 one past it.
+fn limits_of_nodes<const VALUES: usize>(grid: &Grid<VALUES>) -> Vec<(usize, i128)> {
+    let places = |lines: u32| (0..lines).map(i128::from);
+    let nodes = places(grid.geometry.rows)
+        .flat_map(|row| places(grid.geometry.columns).map(move |column| (row, column)))
+        .map(|(row, column)| grid.node(row, column));
+    let mut met = Vec::new();
+    for node in nodes {
+        for (value, limit) in grid.limits.into_iter().enumerate() {
+            let stands = i128::from(node[value]);
+            let past = stands.abs() - limit;
+            if past == 0 || past == 1 {
+                met.push((value, stands.signum() * (past + 1)));
+            }
+        }
+    }
+    met
+}
+
+#[test]
+fn nodes_stand_at_and_past_each_limit_in_each_grid() {
+    let mut met = BTreeSet::new();
+    for image in images(STREAM).filter(|image| image.len() < 2_000) {
+        let Ok(Image::TwoGrids {
+            corrections,
+            heights,
+        }) = open_image(&image)
+        else {
+            continue;
+        };
+        let of = |grid, limits: Vec<_>| limits.into_iter().map(move |it| (grid, it));
+        met.extend(of("corrections", limits_of_nodes(&corrections)));
+        met.extend(of("heights", limits_of_nodes(&heights)));
+    }
+    assert_eq!(met.len(), 3 * 4, "{met:?}");
+}

@@ -1,0 +1,104 @@
+//! The made-up calls of a stream, and what can be said of their grids and points.
+
+use compare::{Call, Stream, Way};
+use reference::{grid_check, open_image, Fraction, Geometry, Image, Point, DEGREE};
+use std::collections::BTreeSet;
+
+pub const SEED: u64 = 7;
+const CASES: u64 = 20_000;
+
+pub fn calls(stream: Stream) -> impl Iterator<Item = Call> {
+    (0..CASES).map(move |index| stream.call(SEED, index))
+}
+
+/// The images of all calls that take one.
+pub fn images(stream: Stream) -> impl Iterator<Item = Vec<u8>> {
+    calls(stream).filter_map(|call| call.image().map(<[u8]>::to_vec))
+}
+
+/// Does something for every point of the lists of one way over fit images.
+pub fn for_each_point(stream: Stream, wanted: Way, mut action: impl FnMut(&Image, Point)) {
+    for call in calls(stream) {
+        let Call::List(list) = call else {
+            continue;
+        };
+        let Ok(image) = open_image(&list.image) else {
+            continue;
+        };
+        let fixes = list.fixes.chunks_exact(3);
+        for fix in fixes.filter(|_| list.way == wanted) {
+            let point = Point {
+                latitude: fix[0].into(),
+                longitude: fix[1].into(),
+            };
+            action(&image, point);
+        }
+    }
+}
+
+/// Does an exact half decide on the value?
+pub fn is_half(exact: Fraction) -> bool {
+    let (numerator, denominator) = exact.parts();
+    2 * (numerator.rem_euclid(denominator)) == denominator
+}
+
+/// The largest distance of a cell's corners, south-west first, from the south-west one.
+pub fn furthest_apart(corners: impl Iterator<Item = i32>) -> i64 {
+    let corners: Vec<i64> = corners.map(i64::from).collect();
+    let distances = corners.iter().map(|it| (it - corners[0]).abs());
+    distances.max().expect("four corners")
+}
+
+/// Where a point lies by the bounds in latitude and in longitude.
+pub fn place_by_bounds(geometry: &Geometry, point: Point) -> (&'static str, &'static str) {
+    let place = |angle: i128, low: i128, high: i128| match angle {
+        _ if angle == low => "low",
+        _ if angle == high => "high",
+        _ if angle == low - 1 || angle == high + 1 => "outside",
+        _ => "other",
+    };
+    (
+        place(point.latitude, geometry.south.into(), geometry.north()),
+        place(point.longitude, geometry.west.into(), geometry.east()),
+    )
+}
+
+/// Which limits are met in the check's calls by the geometries that are picked, of nine; the tenth
+/// is a pass with all steps above 0.
+pub fn limits_of_checked(
+    stream: Stream,
+    pick: impl Fn(&Image) -> Geometry,
+) -> BTreeSet<&'static str> {
+    let mut met = BTreeSet::new();
+    for call in calls(stream) {
+        let Call::GridCheck { image } = call else {
+            continue;
+        };
+        let Ok(opened) = open_image(&image) else {
+            continue;
+        };
+        let steps = grid_check(&image).unwrap_or([0; 6]);
+        if steps.iter().all(|step| *step > 0) {
+            met.insert("all steps");
+        }
+        met.extend(limits_met(&pick(&opened)));
+    }
+    met
+}
+
+/// Which limits of the geometry are met, of nine.
+fn limits_met(geometry: &Geometry) -> impl Iterator<Item = &'static str> {
+    let degrees = |bound: i128| bound.abs() / DEGREE;
+    let events = [
+        ("spacing 1", geometry.latitude_spacing == 1),
+        ("largest spacing", geometry.longitude_spacing == 100_000_000),
+        ("4,096 rows", geometry.rows == 4_096),
+        ("4,096 columns", geometry.columns == 4_096),
+        ("2 × 2", geometry.rows == 2 && geometry.columns == 2),
+        ("south pole", degrees(geometry.south.into()) == 90),
+        ("north pole", degrees(geometry.north()) == 90),
+        ("180 west", degrees(geometry.west.into()) == 180),
+        ("180 east", degrees(geometry.east()) == 180),
+    ];
+    events.into_iter().filter(|(_, met)| *met).map(|it| it.0)
+}

@@ -1,0 +1,140 @@
+//! The two ways with a slip.
+
+use super::{Slip, Slipped, TwoGridSlip};
+use compare::stop_rule_holds;
+use reference::{
+    fix_questions, Answer, Fix, Fraction, Image, Number, Point, BACK_HEIGHT_LIMIT, OUT_HEIGHT_LIMIT,
+};
+
+impl Slipped {
+    pub fn way_back(&self, image: &Image, fix: Fix) -> Result<Answer, Number> {
+        self.questions(image, fix, BACK_HEIGHT_LIMIT)?;
+        if self.has_two_grid(TwoGridSlip::FifteenBeforeNine) {
+            on_the_height_grid(image, fix.point)?;
+        }
+        let corrections = self.corrections(image, fix.point)?;
+        Ok(Answer {
+            point: moved(fix.point, corrections, 1),
+            height: fix.height + self.height(image, fix.point)?,
+            count: 1,
+        })
+    }
+
+    pub fn way_out(&self, image: &Image, fix: Fix) -> Result<Answer, Number> {
+        self.questions(image, fix, OUT_HEIGHT_LIMIT)?;
+        let evaluations = match self.0 {
+            Slip::ElevenAfter(evaluations) => evaluations,
+            _ => 5,
+        };
+        let mut way = vec![fix.point];
+        while way.len() <= evaluations {
+            let here = way[way.len() - 1];
+            let next = moved(fix.point, self.corrections(image, here)?, -1);
+            let stops = stop_rule_holds(here, next) || self.has(Slip::SingleSubtraction);
+            let asked_later = stops && self.has(Slip::StopTestBeforeTheBounds);
+            if !image.in_bounds(next) && !asked_later {
+                return Err(10);
+            }
+            if stops {
+                return self.answer(image, fix, next, way.len());
+            }
+            way.push(next);
+        }
+        self.not_settled(image, way[evaluations])
+    }
+
+    /// Questions 7 and 8.
+    fn questions(&self, image: &Image, fix: Fix, height_limit: i128) -> Result<(), Number> {
+        fix_questions(image, fix, height_limit)?;
+        if self.has_two_grid(TwoGridSlip::BoundsOfBothGrids) {
+            return on_the_height_grid(image, fix.point).map_err(|_| 8);
+        }
+        Ok(())
+    }
+
+    /// The way out's answer once the stop rule has held.
+    fn answer(&self, image: &Image, fix: Fix, last: Point, count: usize) -> Result<Answer, Number> {
+        if self.has_two_grid(TwoGridSlip::LastCorrectionCellAsked) {
+            self.corrections(image, last)?;
+        }
+        let height_at = if self.has(Slip::HeightAtTheFix) {
+            fix.point
+        } else {
+            last
+        };
+        let quasi_geoid = match self.height(image, height_at) {
+            Err(9) if self.has(Slip::LastCellNotAsked) => 0,
+            Err(8) if self.has(Slip::StopTestBeforeTheBounds) => 0,
+            height => height?,
+        };
+        let fabricated = self.has(Slip::FabricatedCount);
+        Ok(Answer {
+            point: last,
+            height: fix.height - quasi_geoid,
+            count: if fabricated { 2 } else { count as i128 },
+        })
+    }
+
+    /// The number of a way out that did not stop.
+    fn not_settled(&self, image: &Image, last: Point) -> Result<Answer, Number> {
+        if self.has(Slip::CellOfP5AlwaysUsed) {
+            self.corrections(image, last)?;
+        }
+        if self.has_two_grid(TwoGridSlip::FifteenBeforeEleven) {
+            on_the_height_grid(image, last)?;
+        }
+        Err(11)
+    }
+
+    fn corrections(&self, image: &Image, point: Point) -> Result<[i128; 2], Number> {
+        match self.0 {
+            Slip::NorthernBound(number) if is_northern(image, point) => return Err(number),
+            Slip::TwoGrids(TwoGridSlip::FifteenAtEveryStep) => on_the_height_grid(image, point)?,
+            Slip::TwoGrids(TwoGridSlip::HeightsOfEveryCellAsked)
+                if image.height(point) == Err(9) =>
+            {
+                return Err(9)
+            }
+            _ => {}
+        }
+        let exact = image.exact_corrections(point)?;
+        Ok(exact.map(|it| self.rounded(it)))
+    }
+
+    fn height(&self, image: &Image, point: Point) -> Result<i128, Number> {
+        let exact = match self.0 {
+            Slip::NorthernBound(number) if is_northern(image, point) => return Err(number),
+            Slip::TwoGrids(slip) => slip.exact_height(image, point)?,
+            _ => image.exact_height(point)?,
+        };
+        Ok(self.rounded(exact))
+    }
+
+    fn rounded(&self, exact: Fraction) -> i128 {
+        let (numerator, denominator) = exact.parts();
+        let (twice, above) = (2 * denominator, 2 * numerator + denominator);
+        match self.0 {
+            Slip::RoundingTowardZero => above / twice,
+            Slip::SumCutTo64Bits => i128::from(above as i64).div_euclid(twice),
+            _ => above.div_euclid(twice),
+        }
+    }
+}
+
+fn is_northern(image: &Image, point: Point) -> bool {
+    point.latitude == image.correction_geometry().north()
+}
+
+/// Is the point on the height grid? Else 15.
+fn on_the_height_grid(image: &Image, point: Point) -> Result<(), Number> {
+    let is_on = image.height_geometry().contains(point);
+    is_on.then_some(()).ok_or(15)
+}
+
+/// The point plus the corrections, or minus them.
+fn moved(point: Point, corrections: [i128; 2], sign: i128) -> Point {
+    Point {
+        latitude: point.latitude + sign * corrections[0],
+        longitude: point.longitude + sign * corrections[1],
+    }
+}
