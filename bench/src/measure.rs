@@ -10,9 +10,9 @@ const SPAN: f64 = 0.002;
 pub type Work<'a> = Box<dyn FnMut() + 'a>;
 
 /// The median seconds that each piece of work takes once, of so many measurements of each.
-pub fn median_seconds(works: &mut [Work], repeats: usize) -> Vec<f64> {
-    let times: Vec<u32> = works.iter_mut().map(times_in_span).collect();
-    let mut measured = vec![Vec::with_capacity(repeats); works.len()];
+pub fn median_seconds<const N: usize>(works: &mut [Work; N], repeats: usize) -> [f64; N] {
+    let times = works.each_mut().map(times_in_span);
+    let mut measured = [(); N].map(|()| Vec::with_capacity(repeats));
     for _ in 0..repeats {
         for (index, work) in works.iter_mut().enumerate() {
             // Once unmeasured: the work before it has left the caches to itself.
@@ -20,7 +20,7 @@ pub fn median_seconds(works: &mut [Work], repeats: usize) -> Vec<f64> {
             measured[index].push(seconds(work, times[index]) / f64::from(times[index]));
         }
     }
-    measured.into_iter().map(median).collect()
+    measured.map(median)
 }
 
 /// How often the work is done in one measurement. It is first done once unmeasured.

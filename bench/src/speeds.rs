@@ -133,10 +133,11 @@ impl Bench {
             positions.copy_from_slice(&given);
             self.pipeline.convert(way, black_box(&mut positions));
         });
-        let [library, plain, floating] = Implementation::ALL.map(list_work);
-        let mut works = [library, plain, floating, proj_work];
-        let seconds = median_seconds(&mut works, self.repeats);
-        [0, 1, 2, 3].map(|index| count as f64 / seconds[index])
+        let mut works = Implementation::ALL.map(list_work);
+        let [library, plain, floating] = median_seconds(&mut works, self.repeats);
+        // By itself: a program runs slower right after PROJ.
+        let [proj] = median_seconds(&mut [proj_work], self.repeats);
+        [library, plain, floating, proj].map(|seconds| count as f64 / seconds)
     }
 
     fn check_speeds(&self) -> [f64; 2] {
@@ -149,6 +150,6 @@ impl Bench {
         };
         let mut works = [library::grid_check, plain::grid_check].map(check_work);
         let seconds = median_seconds(&mut works, self.repeats);
-        [0, 1].map(|index| self.grid.nodes() as f64 / seconds[index])
+        seconds.map(|seconds| self.grid.nodes() as f64 / seconds)
     }
 }

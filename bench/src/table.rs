@@ -25,8 +25,8 @@ pub fn write(editions: &[Measured; 2]) -> String {
     text += &machine::words();
     let _ = writeln!(
         text,
-        "\nMedians of {} measurements, taken in turn, of the thread's processor time. The load of \
-         the machine was {} after them. The counts of instructions are exact.",
+        "\nMedians of {} measurements of the thread's processor time, taken in turn, PROJ's apart. The load \
+         of the machine was {} after them. The counts of instructions are exact.",
         editions[0].plan.repeats,
         machine::load()
     );

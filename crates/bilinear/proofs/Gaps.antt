@@ -1,23 +1,21 @@
 -- Corners by how far they lie above an integer: the weighted sum and the value lie above it by those of these natural numbers.
-use mathlib.Core.Bool.{Bool, true, false, cond}
-use mathlib.Core.Path.{_≡_, refl, ap}
+use mathlib.Core.Path.{_≡_, ap}
 use Prim.Native.Nat.{ℕ, _+_, _-_, _*_, _≤_, _<_}
 use native.Mathlib.Omega.{arith}
 use lib.IntN.{ℤ, pos, natAbs, _+ℤ_, _*ℤ_}
-use lib.Signed.{leZ, _≤ℤ_}
 use mir.Syntax.{w64}
 use mir.Val.{SFits, toZ, ofZ}
 use mir.Facts.{toZ-ofZ}
 use Rattle.integers.specs.Distance.{abs-is}
 use Rattle.integers.specs.Machine.{zarith}
-use Rattle.integers.specs.Difference.{up, down, order, Difference, var, lit, _⊕_, _⊗_}
+use Rattle.integers.specs.Difference.{up, down, order, Difference, var, lit, _⊕_, _⊖_, _⊗_}
 use Rattle.integers.specs.Rounding.{Round, roundHalfUp, round-of, round-is, round-bound}
 use Rattle.rules.specs.declared.Square.{Square}
 use Rattle.rules.specs.Units.{correctionLimit}
 use Rattle.rules.specs.Limits.{CornersWithin}
 use Rattle.rules.specs.Bilinear.{weighted, bilinear}
 use Rattle.rules.proofs.Weights.{weights}
-use Rattle.bilinear.specs.Mean.{InCell, Below, minimum, leastOf, cornerMix, mean}
+use Rattle.bilinear.specs.Mean.{InCell, Around, Below, cornerMix, mean}
 use Rattle.bilinear.proofs.Mixes.{cell-area, corner-mix-most}
 
 -- Corner values by how far they lie above b.
@@ -31,31 +29,15 @@ pub record Gaps (b : ℤ) (c : Square) (sw se nw ne : ℕ) : Type 0 where
 pub read-corner : (z : ℤ) → natAbs z ≤ correctionLimit → toZ w64 (ofZ w64 z) ≡ z
 read-corner z h = let f : SFits w64 z = omega (zarith, abs-is (var z)) in toZ-ofZ f
 
--- The least corner is at most each, and as near to zero as they are.
-pub record Under (M : ℕ) (l : ℤ) (c : Square) : Type 0 where
-  pub near : natAbs l ≤ M
-  pub southwest : l ≤ℤ c .southwest
-  pub southeast : l ≤ℤ c .southeast
-  pub northwest : l ≤ℤ c .northwest
-  pub northeast : l ≤ℤ c .northeast
-
-record Lesser (M : ℕ) (l a b : ℤ) : Type 0 where
-  near : natAbs l ≤ M
-  first : l ≤ℤ a
-  second : l ≤ℤ b
-
-lesser : (M : ℕ) (a b : ℤ) → natAbs a ≤ M → natAbs b ≤ M → (t : Bool) → leZ a b ≡ t → Lesser M (cond t a b) a b
-lesser M a b h k true e = record { near = h; first = omega zarith; second = omega zarith }
-lesser M a b h k false e = record { near = k; first = omega zarith; second = omega zarith }
-
-pub under : {M : ℕ} {c : Square} → CornersWithin M c → Under M (leastOf c) c
-under {M} {c} w =
-    let south = minimum (c .southwest) (c .southeast) in
-    let north = minimum (c .northwest) (c .northeast) in
-    let s : Lesser M south (c .southwest) (c .southeast) = lesser M (c .southwest) (c .southeast) (w .southwest) (w .southeast) _ refl in
-    let n : Lesser M north (c .northwest) (c .northeast) = lesser M (c .northwest) (c .northeast) (w .northwest) (w .northeast) _ refl in
-    let l : Lesser M (leastOf c) south north = lesser M south north (s .near) (n .near) _ refl in
-    record { near = l .near; southwest = omega zarith; southeast = omega zarith; northwest = omega zarith; northeast = omega zarith }
+-- Each corner is around zero.
+pub around-zero : (x : ℤ) → natAbs x ≤ correctionLimit → Around (pos 0) correctionLimit x
+around-zero x h =
+    record {
+      base-within = omega arith;
+      by-most = omega arith;
+      within = h;
+      distance = omega (arith, order, abs-is (var x), abs-is (var x ⊖ lit 0));
+    }
 
 -- Of values within a limit of zero, no gap is wider than twice the limit.
 gap-most : {M n : ℕ} (b x : ℤ) → natAbs b ≤ M → natAbs x ≤ M → x ≡ b +ℤ pos n → n ≤ 2 * M

@@ -1,8 +1,7 @@
 -- What the weighting function asks of its numbers, and the weighted mean over natural numbers that its steps compute.
 use Prim.Native.Nat.{ℕ, _+_, _-_, _*_, _/_, _%_, _^_, _≤_, _<_, max}
-use mathlib.Core.Bool.{Bool, cond, _&&_}
-use lib.IntN.{ℤ, pos, _-ℤ_}
-use lib.Signed.{leZ}
+use mathlib.Core.Bool.{Bool, _&&_}
+use lib.IntN.{ℤ, pos, natAbs, _-ℤ_}
 use Rattle.integers.specs.Rounding.{roundHalfUp}
 use Rattle.rules.specs.declared.Square.{Square}
 use Rattle.rules.specs.Units.{between, within, spacingMost, correctionLimit}
@@ -36,13 +35,12 @@ near c area =
     && (within nearLimit (c .northwest -ℤ c .southwest) && within nearLimit (c .northeast -ℤ c .southwest)))
     && between 1 nearArea area
 
--- The lesser of two values.
-abbrev pub minimum : ℤ → ℤ → ℤ
-minimum a b = cond (leZ a b) a b
-
--- The least corner.
-abbrev pub leastOf : Square → ℤ
-leastOf c = minimum (minimum (c .southwest) (c .southeast)) (minimum (c .northwest) (c .northeast))
+-- A corner value no further than `by` from a base: raised by `by` less the base, it is a natural number.
+pub record Around (base : ℤ) (by : ℕ) (x : ℤ) : Type 0 where
+  pub base-within : natAbs base ≤ correctionLimit
+  pub by-most : by ≤ correctionLimit
+  pub within : natAbs x ≤ correctionLimit
+  pub distance : natAbs (x -ℤ base) ≤ by
 
 -- a and b weighted by the parts whole − w and w.
 abbrev pub mix : (a b w whole : ℕ) → ℕ
@@ -72,7 +70,7 @@ pub record Below (limit sw se nw ne : ℕ) : Type 0 where
   pub northwest : nw ≤ limit
   pub northeast : ne ≤ limit
 
--- The mixes of two rows of such values, as far above the least corner as corners can lie, and the part with which these are mixed.
+-- The mixes of two rows of such values, raised as far as corners can be, and the part with which these are mixed.
 pub record RowMixes (s n u P Q : ℕ) : Type 0 where
   pub south-most : s ≤ Q * (2 * correctionLimit)
   pub north-most : n ≤ Q * (2 * correctionLimit)

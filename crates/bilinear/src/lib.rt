@@ -1,21 +1,21 @@
 // The bilinear value of document 01, exact in 64 bits.
 use numbers::is_between;
 use numbers::three_within;
+use rules::CORRECTION_LIMIT;
 ghost use mathlib.Core.Bool.{true};
 ghost use mathlib.Core.Path.{_≡_};
 ghost use Prim.Native.Nat.{_+_, _*_, _≤_};
 ghost use lib.IntN.{pos, natAbs, _+ℤ_, _-ℤ_};
-ghost use lib.Signed.{_≤ℤ_};
 ghost use Rattle.integers.specs.Rounding.{roundHalfUp};
 ghost use Rattle.rules.specs.Units.{correctionLimit};
 ghost use Rattle.rules.specs.Limits.{CornersWithin};
 ghost use Rattle.rules.specs.Bilinear.{squareOf, bilinear};
-ghost use Rattle.bilinear.specs.Mean.{InCell, minimum, leastOf, mix, mean, quotientOf, Mixable, RowMixes, Below, Divided};
+ghost use Rattle.bilinear.specs.Mean.{InCell, Around, mix, mean, quotientOf, Mixable, RowMixes, Below, Divided};
 ghost use Rattle.bilinear.specs.Mean.{raise, nearLimit, nearArea, near};
 
 // Corners are near where the others lie less than 2^15 from the south-west one and the cell's area is at most 2^48: raised by 2^15 less
 // that corner they are natural numbers below 2^16, and the mix of such numbers, below 2^16 areas, fits 64 bits.
-const RAISE: i64 = 32_768;
+const RAISE: u64 = 32_768;
 
 const NEAR: u64 = 32_767;
 
@@ -27,8 +27,7 @@ pub struct Quotient {
     pub rest: u64,
 }
 
-// The bilinear value of four corner values, south row first, at u from the south side and v from the west side of a cell. Where the corners
-// are near, one division is enough. Else the least corner is taken from each, which leaves natural numbers, and added again to their mean.
+// The bilinear value of four corner values, south row first, at u from the south side and v from the west side of a cell.
 pub fn weigh(
     corners: [[i64; 2]; 2],
     u: u64,
@@ -42,13 +41,7 @@ pub fn weigh(
     if are_near(corners, latitude_spacing * longitude_spacing) {
         return weigh_near(corners, u, v, latitude_spacing, longitude_spacing);
     }
-    let least = least_of(corners);
-    let sw = gap(least, corners[0][0]);
-    let se = gap(least, corners[0][1]);
-    let nw = gap(least, corners[1][0]);
-    let ne = gap(least, corners[1][1]);
-    let mean = rounded_mean(sw, se, nw, ne, u, v, latitude_spacing, longitude_spacing);
-    above_least(least, mean)
+    weigh_any(corners, u, v, latitude_spacing, longitude_spacing)
 }
 
 // Are the corners of a cell of that area near?
@@ -67,7 +60,7 @@ pub fn are_near(corners: [[i64; 2]; 2], area: u64) -> bool
     }
 }
 
-// The value of near corners.
+// The value of near corners, with one division.
 pub fn weigh_near(
     corners: [[i64; 2]; 2],
     u: u64,
@@ -80,29 +73,48 @@ pub fn weigh_near(
     ensures { λ r. ⌜ r ≡ bilinear (squareOf corners) u v «latitude_spacing» «longitude_spacing» ⌝ }
 {
     let sw = corners[0][0];
-    let se = raised(sw, corners[0][1]);
-    let nw = raised(sw, corners[1][0]);
-    let ne = raised(sw, corners[1][1]);
-    lowered(
-        sw,
-        near_mean(se, nw, ne, u, v, latitude_spacing, longitude_spacing),
-    )
+    let se = raised(corners[0][1], sw, RAISE);
+    let nw = raised(corners[1][0], sw, RAISE);
+    let ne = raised(corners[1][1], sw, RAISE);
+    let mean = near_mean(se, nw, ne, u, v, latitude_spacing, longitude_spacing);
+    lowered(mean, sw, RAISE)
 }
 
-// A corner x near sw, raised by RAISE less sw.
-fn raised(sw: i64, x: i64) -> u64
-    requires { ⌜ (natAbs sw ≤ correctionLimit) × (natAbs x ≤ correctionLimit) × (natAbs (x -ℤ sw) ≤ nearLimit) ⌝ }
-    ensures { λ r. ⌜ x ≡ (sw -ℤ pos raise) +ℤ pos r ⌝ }
+// The value of any corners: raised by the largest size of a corner they are natural numbers, whose mean takes three divisions. Those of a
+// real grid are so raised all large, and the branch by which the compiler takes a shorter division of small numbers goes one way: a
+// processor that guesses it wrong waits for the corners' bytes.
+fn weigh_any(
+    corners: [[i64; 2]; 2],
+    u: u64,
+    v: u64,
+    latitude_spacing: u64,
+    longitude_spacing: u64,
+) -> i64
+    requires { ⌜ CornersWithin correctionLimit (squareOf corners) × InCell u v «latitude_spacing» «longitude_spacing» ⌝ }
+    ensures { λ r. ⌜ r ≡ bilinear (squareOf corners) u v «latitude_spacing» «longitude_spacing» ⌝ }
 {
-    (x - sw + RAISE) as u64
+    let sw = raised(corners[0][0], 0, CORRECTION_LIMIT);
+    let se = raised(corners[0][1], 0, CORRECTION_LIMIT);
+    let nw = raised(corners[1][0], 0, CORRECTION_LIMIT);
+    let ne = raised(corners[1][1], 0, CORRECTION_LIMIT);
+    let mean = rounded_mean(sw, se, nw, ne, u, v, latitude_spacing, longitude_spacing);
+    lowered(mean, 0, CORRECTION_LIMIT)
+}
+
+// A corner, raised by so much less a base from which it lies no further.
+fn raised(x: i64, base: i64, by: u64) -> u64
+    requires { ⌜ Around base by x ⌝ }
+    ensures { λ r. ⌜ x ≡ (base -ℤ pos by) +ℤ pos r ⌝ }
+{
+    (x - base + by as i64) as u64
 }
 
 // The value that n is, raised so.
-fn lowered(sw: i64, n: u64) -> i64
-    requires { ⌜ (natAbs sw ≤ correctionLimit) × (n ≤ 2 * correctionLimit) ⌝ }
-    ensures { λ r. ⌜ r ≡ (sw -ℤ pos raise) +ℤ pos n ⌝ }
+fn lowered(n: u64, base: i64, by: u64) -> i64
+    requires { ⌜ (natAbs base ≤ correctionLimit) × (by ≤ correctionLimit) × (n ≤ 2 * correctionLimit) ⌝ }
+    ensures { λ r. ⌜ r ≡ (base -ℤ pos by) +ℤ pos n ⌝ }
 {
-    sw - RAISE + n as i64
+    base - by as i64 + n as i64
 }
 
 // The weighted mean of near corners, raised so that the south-west one is RAISE, rounded.
@@ -119,46 +131,13 @@ fn near_mean(
         × («latitude_spacing» * «longitude_spacing» ≤ nearArea) ⌝ }
     ensures { λ r. ⌜ pos r ≡ mean raise se nw ne u v «latitude_spacing» «longitude_spacing» ⌝ }
 {
-    let south = mix(RAISE as u64, se, v, longitude_spacing);
+    let south = mix(RAISE, se, v, longitude_spacing);
     let north = mix(nw, ne, v, longitude_spacing);
     let m = mix(south, north, u, latitude_spacing);
     let area = latitude_spacing * longitude_spacing;
     let whole = m / area;
     let rest = m % area;
     rounded(Quotient { whole, rest }, area)
-}
-
-// The least corner.
-fn least_of(corners: [[i64; 2]; 2]) -> i64
-    requires { ⌜ CornersWithin correctionLimit (squareOf corners) ⌝ }
-    ensures { λ r. ⌜ r ≡ leastOf (squareOf corners) ⌝ }
-{
-    let south = lesser(corners[0][0], corners[0][1]);
-    let north = lesser(corners[1][0], corners[1][1]);
-    lesser(south, north)
-}
-
-// The lesser of two values.
-fn lesser(a: i64, b: i64) -> i64
-    ensures { λ r. ⌜ r ≡ minimum a b ⌝ }
-{
-    if a <= b { a } else { b }
-}
-
-// How far x lies above the least value.
-fn gap(least: i64, x: i64) -> u64
-    requires { ⌜ (natAbs least ≤ correctionLimit) × (natAbs x ≤ correctionLimit) × (least ≤ℤ x) ⌝ }
-    ensures { λ r. ⌜ x ≡ least +ℤ pos r ⌝ }
-{
-    (x - least) as u64
-}
-
-// The value so far above the least one.
-fn above_least(least: i64, n: u64) -> i64
-    requires { ⌜ (natAbs least ≤ correctionLimit) × (n ≤ 2 * correctionLimit) ⌝ }
-    ensures { λ r. ⌜ r ≡ least +ℤ pos n ⌝ }
-{
-    least + n as i64
 }
 
 // The weighted mean of four natural corner values, rounded: the two rows are mixed, then the mix of both divided by the cell's area.

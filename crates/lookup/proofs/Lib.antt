@@ -2,4 +2,3 @@
 pub mod Found
 pub mod Squares
 pub mod Places
-pub mod OnGrids

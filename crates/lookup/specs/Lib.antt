@@ -1,3 +1,2 @@
 -- What the contracts of the lookups cite.
 pub mod Held
-pub mod Grids

@@ -27,7 +27,7 @@ use Rattle.rules.proofs.Weights.{value-within}
 use Rattle.lookup.specs.declared.HeldCell.{HeldCell}
 use Rattle.lookup.specs.declared.PointValues.{PointValues}
 use Rattle.lookup.specs.Held.{runsOf, CellsOpen, Bounded, Holds, heldAt, heightIn, valueIn, nodeLookup}
-use Rattle.lookup.specs.Grids.{correctionCell, heightCell, gridsLookup, heightOn}
+use Rattle.grids.specs.Grids.{correctionCell, heightCell, gridsLookup, heightOn}
 use Rattle.lookup.proofs.Found.{bounded, cells-open, held-holds, height-from, height-in-within}
 use Rattle.lookup.proofs.Places.{place-inside}
 use Rattle.source.specs.Asked.{OpenAround, pointValues, pointLookup}

@@ -1,12 +1,12 @@
 // What a way asks of an opened image at a point: the corrections and the quasi-geoid height together, or the height alone. The choice
 // between heights at the corrections' nodes and heights on a separate grid is made here.
+use grids::height_on;
+use grids::look_up_grids;
 use lookup::HeldCell;
 use lookup::PointLookup;
 use lookup::cell_around;
 use lookup::height_in;
-use lookup::height_on;
 use lookup::lies_in;
-use lookup::look_up_grids;
 use lookup::look_up_nodes;
 use lookup::runs_of;
 use rules::HeightLookup;

@@ -40,7 +40,6 @@ pub near-mean-spec : {M : Type 1} → statement M
 near-mean-spec =
     tie.close
     (tie.spec
-    (λ c. search needs)
     mix-requires
     mix-requires-2
     mix-requires-3

@@ -9,7 +9,7 @@ use Rattle.integers.specs.Machine.{told}
 use Rattle.rules.specs.declared.Square.{Square}
 use Rattle.rules.specs.Units.{correctionLimit}
 use Rattle.rules.specs.Bilinear.{squareOf}
-use Rattle.bilinear.specs.Mean.{raise, nearLimit, Below}
+use Rattle.bilinear.specs.Mean.{raise, nearLimit, Around, Below}
 use Rattle.bilinear.proofs.Gaps.{Gaps, read-corner, mean-most, value-above}
 use Rattle.bilinear.proofs.Near.{NearTo, near-to, raised-most, raised-back, below-most}
 use borrow.Author.Needs.{needs}
@@ -28,10 +28,10 @@ module _ (s : tie.Start) (x : ℤ) (within : natAbs x ≤ correctionLimit) where
   abbrev southwest : ℤ
   southwest = square s .southwest
 
-  asked : natAbs (x -ℤ southwest) ≤ nearLimit
-      → (natAbs (toZ w64 (ofZ w64 southwest)) ≤ correctionLimit) × (natAbs (toZ w64 (ofZ w64 x)) ≤ correctionLimit)
-      × (natAbs (toZ w64 (ofZ w64 x) -ℤ toZ w64 (ofZ w64 southwest)) ≤ nearLimit)
-  asked h = rw (read-corner southwest (s .pre .0 .southwest), read-corner x within) (s .pre .0 .southwest, within, h)
+  asked : natAbs (x -ℤ southwest) ≤ nearLimit → Around (toZ w64 (ofZ w64 southwest)) raise (toZ w64 (ofZ w64 x))
+  asked h =
+      rw (read-corner southwest (s .pre .0 .southwest), read-corner x within)
+      (record { base-within = s .pre .0 .southwest; by-most = omega arith; within = within; distance = omega arith })
 
   raised-is : (n : ℕ) → toZ w64 (ofZ w64 x) ≡ (toZ w64 (ofZ w64 southwest) -ℤ pos raise) +ℤ pos n → x ≡ (southwest -ℤ pos raise) +ℤ pos n
   raised-is n e = rw (read-corner southwest (s .pre .0 .southwest), read-corner x within) at e
@@ -95,6 +95,7 @@ lowered-requires c κs =
     let s = start r in
     let q = square s in (
       rw (read-corner (q .southwest) (s .pre .0 .southwest)) (s .pre .0 .southwest),
+      omega arith,
       mean-most (s .pre .1) (below-most (below r)) (c .near-mean .ensures),
     )
 

@@ -1,8 +1,7 @@
 -- `lookup::cell_of` meets its contract: the place of the point on each axis is what `locate` ensures of its offset.
-use mathlib.Core.Path.{_≡_, ap}
+use mathlib.Core.Path.{_≡_}
 use Rattle.rules.specs.Bilinear.{offset}
 use Rattle.axis.specs.Place.{placeOn}
-use Rattle.axis.specs.declared.AxisPlace.{AxisPlace}
 use borrow.Author.Needs.{needs}
 use Rattle.lookup.proofs.cell_of.Statement.{statement}
 use Rattle.lookup.proofs.cell_of.Tie as tie

@@ -1,6 +1,5 @@
 -- `lookup::heights_around` meets its contract: by whether the heights stand on a separate grid.
 use mathlib.Core.Path.{refl}
-use borrow.Author.Needs.{needs}
 use Rattle.lookup.proofs.heights_around.Statement.{statement}
 use Rattle.lookup.proofs.heights_around.Tie as tie
 

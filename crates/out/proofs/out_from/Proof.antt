@@ -91,7 +91,7 @@ answer-at-requires c κs =
     let v = c .before .before .before in
     let s = start (at-test v) in
     let i = led v _ (c .before .q .given .1) .1 in
-    (record { layout = s .pre .0 .layout; point = i }, held-for v _, rw (toZ-ofZ (s .fits .height)) (s .pre .1))
+    (record { layout = s .pre .0 .layout; point = search (i, s .pre .0 .point) }, held-for v _, rw (toZ-ofZ (s .fits .height)) (s .pre .1))
 
 returns-2 : tie.Need-returns-2 Inv-loop μ-loop
 unfolding out

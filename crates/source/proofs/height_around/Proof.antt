@@ -13,7 +13,10 @@ abbrev start : tie.After-runs-of → tie.Start
 start c = c .before .before .before
 
 cell-around-requires : tie.Need-cell-around-requires
-cell-around-requires c κs = cell-asked (start c .pre .0) (c .runs-of .ensures)
+cell-around-requires c κs =
+    let pre = start c .pre in
+    let o = cell-asked (pre .0) (c .runs-of .ensures) in
+    (record { latitude = o .0 .latitude; longitude = o .0 .longitude; height = λ _. o .0 .height (pre .1) }, o .1)
 
 held : (c : tie.After-cell-around) → let s = start (c .before) .args in
     c .cell-around .result ≡ heldAt (gridOf (now (s .image)) (s .l)) (s .q)

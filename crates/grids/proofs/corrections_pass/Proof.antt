@@ -1,8 +1,8 @@
--- `lookup::corrections_pass` meets its contract: each value is what `square_passes` ensures.
+-- `grids::corrections_pass` meets its contract: each value is what `square_passes` ensures.
 use borrow.Author.Needs.{needs}
 use Rattle.integers.specs.Booleans.{and-next, and-stop}
-use Rattle.lookup.proofs.corrections_pass.Statement.{statement}
-use Rattle.lookup.proofs.corrections_pass.Tie as tie
+use Rattle.grids.proofs.corrections_pass.Statement.{statement}
+use Rattle.grids.proofs.corrections_pass.Tie as tie
 
 returns : tie.Need-returns
 returns c = let t = c .before in and-next (t .before .square-passes .ensures) (t .if1 .taken) (c .square-passes2 .ensures)

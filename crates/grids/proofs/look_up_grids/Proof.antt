@@ -1,13 +1,13 @@
--- `lookup::look_up_grids` meets its contract: the corners on each grid as they were answered, and the values between them.
+-- `grids::look_up_grids` meets its contract: the corners on each grid as they were answered, and the values between them.
 use mathlib.Core.Path.{_≡_, sym, ap, _∙_}
 use denote.Ref.{now}
 use Rattle.rules.specs.Answers.{values}
 use Rattle.rules.specs.Image.{Grid, gridOf}
-use Rattle.lookup.specs.Grids.{correctionCell, correctionCellOf, heightCell, heightCellOf, gridsLookup}
-use Rattle.lookup.proofs.OnGrids.{corrections-weighed, heights-weighed}
+use Rattle.grids.specs.Grids.{correctionCell, correctionCellOf, heightCell, heightCellOf, gridsLookup}
+use Rattle.grids.proofs.OnGrids.{corrections-weighed, heights-weighed}
 use borrow.Author.Needs.{needs}
-use Rattle.lookup.proofs.look_up_grids.Statement.{statement}
-use Rattle.lookup.proofs.look_up_grids.Tie as tie
+use Rattle.grids.proofs.look_up_grids.Statement.{statement}
+use Rattle.grids.proofs.look_up_grids.Tie as tie
 
 abbrev grid : tie.Start → Grid
 grid s = gridOf (now (s .args .image)) (s .args .l)

@@ -1,4 +1,4 @@
--- `lookup::height_cell` meets its contract: questions 15 and 9 as their tests answered, of the corners of the point's cell.
+-- `grids::height_cell` meets its contract: questions 15 and 9 as their tests answered, of the corners of the point's cell.
 use mathlib.Core.Bool.{true}
 use mathlib.Core.Path.{_≡_, sym, ap, _∙_}
 use borrow.Author.Tests.{not-true, not-false}
@@ -8,13 +8,13 @@ use Rattle.rules.specs.Answers.{values}
 use Rattle.rules.specs.Image.{plane}
 use Rattle.rules.specs.Bilinear.{cornersFor}
 use Rattle.rules.specs.Lookup.{inside, squarePasses}
 use Rattle.lookup.specs.Held.{Bounded}
-use Rattle.lookup.specs.Grids.{heightCell}
+use Rattle.grids.specs.Grids.{heightCell}
 use Rattle.lookup.proofs.Found.{bounded}
 use Rattle.lookup.proofs.Places.{cell-inside}
 use borrow.Author.Needs.{needs}
-use Rattle.lookup.proofs.height_cell.Statement.{statement}
-use Rattle.lookup.proofs.height_cell.Tie as tie
+use Rattle.grids.proofs.height_cell.Statement.{statement}
+use Rattle.grids.proofs.height_cell.Tie as tie
 
 -- the point is on the height grid
 abbrev start : tie.Else1 → tie.Start

@@ -1,9 +1,9 @@
--- `lookup::values_on` meets its contract: each value is that between its corners.
+-- `grids::values_on` meets its contract: each value is that between its corners.
 use mir.Syntax.{w64}
 use Rattle.integers.specs.Machine.{told}
 use borrow.Author.Needs.{needs}
-use Rattle.lookup.proofs.values_on.Statement.{statement}
-use Rattle.lookup.proofs.values_on.Tie as tie
+use Rattle.grids.proofs.values_on.Statement.{statement}
+use Rattle.grids.proofs.values_on.Tie as tie
 
 returns : tie.Need-returns
 returns c =

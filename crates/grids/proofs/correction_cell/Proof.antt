@@ -1,5 +1,5 @@
--- `lookup::correction_cell` meets its contract: question 9 as its test answered, of the corners of the point's cell.
-use mathlib.Core.Bool.{Bool, true, _&&_}
+-- `grids::correction_cell` meets its contract: question 9 as its test answered, of the corners of the point's cell.
+use mathlib.Core.Bool.{Bool, _&&_}
 use mathlib.Core.Path.{_≡_, sym, ap, _∙_}
 use borrow.Author.Tests.{not-true, not-false}
 use denote.Ref.{now}
@@ -9,13 +9,13 @@ use Rattle.rules.specs.Answers.{values}
 use Rattle.rules.specs.Image.{plane}
 use Rattle.rules.specs.Bilinear.{cornersFor}
 use Rattle.rules.specs.Lookup.{squarePasses}
 use Rattle.lookup.specs.Held.{Bounded}
-use Rattle.lookup.specs.Grids.{correctionCell}
+use Rattle.grids.specs.Grids.{correctionCell}
 use Rattle.lookup.proofs.Found.{bounded}
 use Rattle.lookup.proofs.Places.{cell-inside}
 use borrow.Author.Needs.{needs}
-use Rattle.lookup.proofs.correction_cell.Statement.{statement}
-use Rattle.lookup.proofs.correction_cell.Tie as tie
+use Rattle.grids.proofs.correction_cell.Statement.{statement}
+use Rattle.grids.proofs.correction_cell.Tie as tie
 
 abbrev start : tie.After-cell-of → tie.Start
 start c = c .before .before .before

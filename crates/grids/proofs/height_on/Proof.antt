@@ -1,16 +1,16 @@
--- `lookup::height_on` meets its contract: the corners of the height cell, and the value between them.
+-- `grids::height_on` meets its contract: the corners of the height cell, and the value between them.
 use mathlib.Core.Path.{_≡_, sym, ap, _∙_}
 use denote.Ref.{now}
 use mir.Syntax.{w64}
 use Rattle.integers.specs.Machine.{told}
 use Rattle.rules.specs.Answers.{values, andThen}
 use Rattle.rules.specs.Image.{plane}
 use Rattle.lookup.specs.Held.{valueIn}
-use Rattle.lookup.specs.Grids.{heightCell, heightCellOf, heightOn}
-use Rattle.lookup.proofs.OnGrids.{heights-weighed, height-weighed}
+use Rattle.grids.specs.Grids.{heightCell, heightCellOf, heightOn}
+use Rattle.grids.proofs.OnGrids.{heights-weighed, height-weighed}
 use borrow.Author.Needs.{needs}
-use Rattle.lookup.proofs.height_on.Statement.{statement}
-use Rattle.lookup.proofs.height_on.Tie as tie
+use Rattle.grids.proofs.height_on.Statement.{statement}
+use Rattle.grids.proofs.height_on.Tie as tie
 
 abbrev start : tie.After-height-cell → tie.Start
 start c = c .before .before

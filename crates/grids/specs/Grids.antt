@@ -11,14 +11,14 @@ use Rattle.rules.specs.Image.{Grid}
 use Rattle.rules.specs.Limits.{CornersWithin}
 use Rattle.rules.specs.Bilinear.{cornersFor, valueAt}
 use Rattle.rules.specs.Lookup.{inside, squarePasses}
-use Rattle.lookup.specs.declared.CorrectionCorners.{CorrectionCorners}
-use Rattle.lookup.specs.declared.CorrectionCell.{CorrectionCell}
-use Rattle.lookup.specs.declared.CorrectionCell.the-variants as correction-cell
-use Rattle.lookup.specs.declared.HeightCorners.{HeightCorners}
-use Rattle.lookup.specs.declared.HeightCell.{HeightCell}
-use Rattle.lookup.specs.declared.HeightCell.the-variants as height-cell
+use Rattle.grids.specs.declared.CorrectionCorners.{CorrectionCorners}
+use Rattle.grids.specs.declared.CorrectionCell.{CorrectionCell}
+use Rattle.grids.specs.declared.CorrectionCell.the-variants as correction-cell
+use Rattle.grids.specs.declared.HeightCorners.{HeightCorners}
+use Rattle.grids.specs.declared.HeightCell.{HeightCell}
+use Rattle.grids.specs.declared.HeightCell.the-variants as height-cell
 use Rattle.lookup.specs.declared.PointValues.{PointValues}
 use Rattle.lookup.specs.Held.{cellPlace, InCellOf, valueIn}
 
 -- The corners of a point's cell on a grid of corrections, by its geometry and their values, after question 9.
 unfoldable pub correctionCell : Geometry → (latitude longitude : ℕ → ℕ → ℤ) → Point → Outcome CorrectionCorners

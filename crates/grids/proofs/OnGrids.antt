@@ -1,25 +1,24 @@
 -- Corners that were read with their questions answered yes can be weighed, and the height's lookup weighs them.
 use mathlib.Core.Bool.{Bool, true, false, _&&_}
-use mathlib.Core.Path.{_≡_, refl, sym, subst}
+use mathlib.Core.Path.{_≡_, refl, subst}
 use Prim.Native.Nat.{ℕ}
-use native.Mathlib.Omega.{arith}
 use lib.IntN.{ℤ}
 use Rattle.integers.specs.Booleans.{and-left, and-right}
 use Rattle.rules.specs.declared.Geometry.{Geometry}
 use Rattle.rules.specs.declared.Point.{Point}
 use Rattle.rules.specs.Units.{correctionLimit, quasiGeoidLimit}
-use Rattle.rules.specs.Answers.{Outcome, values, ask, andThen}
+use Rattle.rules.specs.Answers.{values, ask, andThen}
 use Rattle.rules.specs.Limits.{GeometryPasses}
 use Rattle.rules.specs.Bilinear.{cornersFor, valueAt}
 use Rattle.rules.specs.Lookup.{inside, squarePasses}
 use Rattle.rules.proofs.Answers.{asked}
 use Rattle.rules.proofs.Limits.{corners-within}
-use Rattle.lookup.specs.declared.CorrectionCorners.{CorrectionCorners}
-use Rattle.lookup.specs.declared.HeightCorners.{HeightCorners}
+use Rattle.grids.specs.declared.CorrectionCorners.{CorrectionCorners}
+use Rattle.grids.specs.declared.HeightCorners.{HeightCorners}
 use Rattle.lookup.specs.Held.{cellPlace, valueIn}
-use Rattle.lookup.specs.Grids.{correctionCell, heightCell, CorrectionsWeighed, HeightsWeighed, heightOn}
+use Rattle.grids.specs.Grids.{correctionCell, heightCell, CorrectionsWeighed, HeightsWeighed, heightOn}
 use Rattle.lookup.proofs.Found.{bounded}
 use Rattle.lookup.proofs.Places.{place-inside}
 
 pub corrections-weighed : {g : Geometry} {c : CorrectionCorners} (f h : ℕ → ℕ → ℤ) (p : Point) → GeometryPasses g → inside g p ≡ true
     → correctionCell g f h p ≡ values c → CorrectionsWeighed g c

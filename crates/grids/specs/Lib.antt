@@ -1,0 +1,2 @@
+-- What the contracts of the lookups on two grids cite.
+pub mod Grids
