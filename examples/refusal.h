@@ -26,6 +26,8 @@ static const char *meaning(enum marker_number number) {
     case MARKER_REFUSED_BAD_NOTATION: return "The notation is no latitude or longitude.";
     case MARKER_REFUSED_LIST_LENGTHS: return "The lengths of fixes and answers do not fit each other.";
     case MARKER_REFUSED_OFF_HEIGHT_GRID: return "The Bessel point lies off the height grid.";
+    case MARKER_REFUSED_VDATUM_FILE: return "The VDatum file's header is no grid's, or the file or the buffer is not of its length.";
+    case MARKER_REFUSED_VDATUM_HEIGHT: return "A height of the VDatum file is not finite or past its limit.";
     }
     return "This is no number of document 01.";
 }

@@ -7,7 +7,8 @@
  * A function gives MARKER_DONE, or the number of the first of document 01's questions put to the call whose answer is no; then
  * what it was lent is unchanged. A list call puts 14 right after 6; 7 to 11 and 15 are put to each fix and stand in that fix's
  * answer. An image of edition 2 has its corrections on one grid and its heights on another; 3 to 6 are put to both, each question
- * to the correction grid and then to the height grid.
+ * to the correction grid and then to the height grid. 16 and 17 are put to VDatum files, which the bench converts into the height
+ * nodes of such an image.
  */
 #ifndef MARKER_H
 #define MARKER_H
@@ -42,8 +43,11 @@ enum marker_number {
     MARKER_REFUSED_BAD_NOTATION = 13,    /* minutes or seconds not below 60, a letter not of the axis, or an angle past 90 or 180
                                             degrees from zero */
     MARKER_REFUSED_LIST_LENGTHS = 14,    /* the fixes' length is not 3 * n and the answers' length 5 * n for the same n */
-    MARKER_REFUSED_OFF_HEIGHT_GRID = 15  /* edition 2: the Bessel point is not in the bounds of the height grid. Put after 11 going
+    MARKER_REFUSED_OFF_HEIGHT_GRID = 15, /* edition 2: the Bessel point is not in the bounds of the height grid. Put after 11 going
                                             out, and going back after 9 for the corrections; 9 for the heights comes last */
+    MARKER_REFUSED_VDATUM_FILE = 16,     /* VDatum: a number of the header is not finite or, once rounded, is refused by 3 to 5, or
+                                            the file or the buffer is not of the exact length */
+    MARKER_REFUSED_VDATUM_HEIGHT = 17    /* VDatum: a node is not finite or, once rounded, is past 1,000,000 */
 };
 
 /* An image, in bytes; its numbers are little-endian. Bytes before the first node have no meaning. Nodes stand in rows, the southern
@@ -112,6 +116,30 @@ enum {
     MARKER_FINDINGS_LENGTH = 6
 };
 
+/* A VDatum .gtx file, in bytes; its numbers are big-endian. The file ends with its last node.
+ *
+ *   header   0  double   southern latitude, degrees
+ *            8  double   western longitude, degrees
+ *           16  double   latitude spacing, degrees
+ *           24  double   longitude spacing, degrees
+ *           32  int32_t  rows
+ *           36  int32_t  columns
+ *
+ *   node     0  float    quasi-geoid height, metres; in rows, the southern row first, each row from west to east
+ */
+enum { MARKER_VDATUM_HEADER_LENGTH = 40, MARKER_VDATUM_NODE_LENGTH = 4 };
+
+/* What stands where in the geometry that a conversion of a file hands back. */
+enum {
+    MARKER_SOUTH = 0,             /* nd, as the three below */
+    MARKER_WEST = 1,
+    MARKER_LATITUDE_SPACING = 2,
+    MARKER_LONGITUDE_SPACING = 3,
+    MARKER_ROWS = 4,
+    MARKER_COLUMNS = 5,
+    MARKER_GEOMETRY_LENGTH = 6
+};
+
 /* What stands where in a notation. */
 enum {
     MARKER_DEGREES = 0,
@@ -133,12 +161,13 @@ enum {
  * reserved below it, and what is used of the red zone, the 128 bytes below the stack pointer that no handler may touch. It does not
  * grow with the image or the list. */
 enum {
-    MARKER_CODE_BYTES = 11652,
+    MARKER_CODE_BYTES = 12996,
     MARKER_GRID_CHECK_STACK = 240,
     MARKER_LIST_OUT_STACK = 1400,
     MARKER_LIST_BACK_STACK = 1400,
     MARKER_READ_NOTATION_STACK = 8,
-    MARKER_WRITE_NOTATION_STACK = 8
+    MARKER_WRITE_NOTATION_STACK = 8,
+    MARKER_HEIGHTS_FROM_VDATUM_STACK = 200
 };
 
 /* The grid check. Gives 0 with the findings written, or 1 to 6, 9 or 12. */
@@ -158,6 +187,12 @@ int64_t marker_read_notation(bool longitude, uint64_t degrees, uint64_t minutes,
 
 /* Writes an angle as a notation. `longitude` as above. Gives 0, or 13. */
 int64_t marker_write_notation(bool longitude, int64_t nd, uint64_t notation[MARKER_NOTATION_LENGTH]);
+
+/* Converts a VDatum file: every angle to the nearest nd and every height to the nearest unit, halves upward, from the float's exact
+ * value. The buffer `nodes` has room for 4 * rows * columns bytes, no more and no less, and gets the height nodes of an image of
+ * edition 2, ready to be burned. Gives 0 with the nodes and the geometry written, or 16 or 17 with both unchanged. */
+int64_t marker_heights_from_vdatum(const uint8_t *file, size_t file_len, uint8_t *nodes, size_t nodes_len,
+                                   int64_t geometry[MARKER_GEOMETRY_LENGTH]);
 
 #ifdef __cplusplus
 }

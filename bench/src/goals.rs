@@ -1,6 +1,7 @@
 //! The goals, and whether the measurements meet them.
 
-use crate::plan::SIZE_OF_LENGTHS;
+use crate::file_speeds::FileSpeeds;
+use crate::plan::{LARGEST, SIZE_OF_LENGTHS};
 use crate::speeds::{Conversions, Four};
 use crate::table::{size_words, Measured};
 use std::fmt::Write;
@@ -18,11 +19,12 @@ const PLAIN: usize = 1;
 const FLOATING: usize = 2;
 const PROJ: usize = 3;
 
-pub fn write(editions: &[Measured; 2]) -> String {
+pub fn write(editions: &[Measured; 2], files: &FileSpeeds) -> String {
     let mut text = String::from("\n## Goals\n\ngoal | measured | |\n---|---:|---|\n");
     let told = |met: bool| if met { "met" } else { "missed" };
     let goals = both_editions(editions).into_iter();
-    for goal in goals.chain(beside_floating(&editions[0])) {
+    let goals = goals.chain(beside_floating(&editions[0]));
+    for goal in goals.chain([of_files(files)]) {
         let (words, measured, wanted) = (goal.words, goal.measured, goal.wanted);
         let met = told(measured >= wanted);
         let _ = writeln!(
@@ -33,6 +35,9 @@ pub fn write(editions: &[Measured; 2]) -> String {
     let growth = largest(editions.iter().map(growth));
     let words = "instructions of a fix: most / least over an edition's grid sizes is below 1.01";
     let _ = writeln!(text, "{words} | {growth:.3} | {} |", told(growth < 1.01));
+    let (seconds, size) = (largest_file(files), size_words(LARGEST));
+    let words = format!("VDatum files of {size}: most seconds of the library are below 1");
+    let _ = writeln!(text, "{words} | {seconds:.2} | {} |", told(seconds < 1.0));
     text
 }
 
@@ -78,6 +83,25 @@ fn beside_floating(first: &Measured) -> [Goal; 2] {
         wanted,
     };
     [goal("out", row.out, 0.9), goal("back", row.back, 0.6)]
+}
+
+/// The goal beside i128 over all VDatum files.
+fn of_files(files: &FileSpeeds) -> Goal {
+    let ratios = files.files.iter().map(|file| {
+        let [library, plain] = file.nodes_per_second();
+        library / plain
+    });
+    Goal {
+        words: "VDatum files: least library / i128".to_string(),
+        measured: least(ratios),
+        wanted: 1.0,
+    }
+}
+
+/// The library's most seconds of a VDatum file of the largest size.
+fn largest_file(files: &FileSpeeds) -> f64 {
+    let such = files.files.iter().filter(|file| file.size == LARGEST);
+    largest(such.map(|file| file.seconds[LIBRARY]))
 }
 
 /// The library's most instructions of a fix over an edition's grid sizes, to its least.

@@ -12,3 +12,15 @@ pub fn list(way: Way, image: &[u8], fixes: &[i64], answers: &mut [i64]) -> i64 {
 pub fn grid_check(image: &[u8], findings: &mut [i64; 6]) -> i64 {
     unsafe { binding::marker_grid_check(image.as_ptr(), image.len(), findings.as_mut_ptr()) }
 }
+
+pub fn heights_from_vdatum(file: &[u8], nodes: &mut [u8], geometry: &mut [i64; 6]) -> i64 {
+    unsafe {
+        binding::marker_heights_from_vdatum(
+            file.as_ptr(),
+            file.len(),
+            nodes.as_mut_ptr(),
+            nodes.len(),
+            geometry.as_mut_ptr(),
+        )
+    }
+}

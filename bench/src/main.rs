@@ -1,9 +1,11 @@
-//! Measures the library, the plain implementations and PROJ over images of both editions.
-//! `bench FOLDER` writes the table and the plot there, as table.md and plot.svg; `bench --quick`
-//! prints a short table of each edition.
+//! Measures the library, the plain implementations and PROJ over images of both editions, and the
+//! conversion of VDatum files. `bench FOLDER` writes the table and the plot there, as table.md and
+//! plot.svg; `bench --quick` prints a short table of each edition and of the files.
 
 mod agreement;
 mod counts;
+mod file_agreement;
+mod file_speeds;
 mod goals;
 mod machine;
 mod measure;
@@ -16,7 +18,7 @@ mod table;
 mod temporary;
 
 use bench::Edition;
-use plan::Plan;
+use plan::{FilePlan, Plan};
 use std::path::Path;
 use std::{env, fs};
 use table::Measured;
@@ -27,6 +29,10 @@ fn main() {
         for edition in [Edition::First, Edition::Second] {
             print!("{}", table::edition(&measure(Plan::quick(edition))));
         }
+        print!(
+            "{}",
+            table::files(&file_speeds::measure(&FilePlan::quick()))
+        );
     } else {
         write_results(Path::new(&word));
     }
@@ -34,8 +40,9 @@ fn main() {
 
 fn write_results(folder: &Path) {
     let editions = [Edition::First, Edition::Second].map(|it| measure(Plan::whole(it)));
+    let files = file_speeds::measure(&FilePlan::whole());
     fs::create_dir_all(folder).expect("the results' folder");
-    let table = table::write(&editions);
+    let table = table::write(&editions, &files);
     print!("{table}");
     fs::write(folder.join("table.md"), table).expect("the table");
     let [first, _] = &editions;

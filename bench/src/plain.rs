@@ -1,15 +1,19 @@
-//! A straightforward implementation of document 01, and of edition 2 of its image (document 02,
-//! note 1), over i128, written for speed.
+//! A straightforward implementation of document 01, of edition 2 of its image and of VDatum files
+//! (document 02, notes 1 and 2), over i128, written for speed.
 
 mod axis;
 mod first;
 mod fix;
+mod floats;
 mod nodes;
 mod second;
 mod slopes;
 #[cfg(test)]
 mod tests;
 mod trailer;
+mod vdatum;
+
+pub use vdatum::heights_from_vdatum;
 
 use crate::Way;
 

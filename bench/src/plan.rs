@@ -2,7 +2,7 @@
 
 use bench::Edition;
 
-/// Rows and columns of the corrections.
+/// Rows and columns of the corrections, or of a file.
 pub type Size = (u32, u32);
 
 /// What is measured of an edition.
@@ -17,8 +17,18 @@ pub struct Plan {
     pub repeats: usize,
 }
 
+/// What is measured of the conversion of VDatum files.
+pub struct FilePlan {
+    pub sizes: &'static [Size],
+    /// Measurements of one piece of work.
+    pub repeats: usize,
+}
+
 /// Rows and columns of the grids.
 pub const SIZES: [Size; 5] = [(3, 3), (64, 64), (481, 301), (1_024, 1_024), (4_096, 4_096)];
+
+/// Those of the largest file, whose conversion is to take less than a second.
+pub const LARGEST: Size = SIZES[4];
 
 /// Those of the grids with wide height cells.
 pub const WIDE_SIZES: [Size; 2] = [SIZES[2], SIZES[4]];
@@ -57,6 +67,24 @@ impl Plan {
             sizes: &SIZES[1..4],
             wide_sizes: &[],
             lengths: &[],
+            repeats: 21,
+        }
+    }
+}
+
+impl FilePlan {
+    /// All, for the results.
+    pub fn whole() -> FilePlan {
+        FilePlan {
+            sizes: &SIZES[2..],
+            repeats: 51,
+        }
+    }
+
+    /// Without the largest, for those who tune.
+    pub fn quick() -> FilePlan {
+        FilePlan {
+            sizes: &SIZES[2..4],
             repeats: 21,
         }
     }

@@ -1,7 +1,8 @@
 //! A grid as the files that PROJ reads: corrections as .gsb (NTv2), heights as .gtx.
 
 use bench::grid::{Geometry, Grid};
-use std::fs::File;
+use bench::gtx;
+use std::fs::{self, File};
 use std::io::{BufWriter, Result, Write};
 use std::path::Path;
 
@@ -81,24 +82,8 @@ fn whole(file: &mut impl Write, name: &str, value: u32) -> Result<()> {
     file.write_all(&u64::from(value).to_le_bytes())
 }
 
-/// The heights with their own geometry, metres in 32-bit floating point, the most significant byte
-/// first.
+/// The heights with their own geometry.
 pub fn write_gtx(grid: &Grid, path: &Path) -> Result<()> {
-    let mut file = BufWriter::new(File::create(path)?);
-    let geometry = &grid.heights;
-    let spacings = [geometry.latitude_spacing, geometry.longitude_spacing];
-    for bound in [geometry.south, geometry.west] {
-        file.write_all(&(bound as f64 / 1e9).to_be_bytes())?;
-    }
-    for spacing in spacings {
-        file.write_all(&(f64::from(spacing) / 1e9).to_be_bytes())?;
-    }
-    for count in [geometry.rows, geometry.columns] {
-        file.write_all(&count.to_be_bytes())?;
-    }
-    for (row, column) in geometry.places() {
-        let metres = (f64::from(grid.height(row, column)) / 1e4) as f32;
-        file.write_all(&metres.to_be_bytes())?;
-    }
-    file.flush()
+    let metres = |row, column| (f64::from(grid.height(row, column)) / 1e4) as f32;
+    fs::write(path, gtx::bytes(&grid.heights, metres))
 }

@@ -2,6 +2,7 @@
 
 use crate::agreement::OTHER_FIXES;
 use crate::counts::{Counts, Three};
+use crate::file_speeds::FileSpeeds;
 use crate::goals;
 use crate::machine;
 use crate::plan::{Plan, Size, LENGTH_OF_DISTANCE, LENGTH_OF_SIZES, SIZE_OF_LENGTHS};
@@ -20,7 +21,7 @@ pub struct Measured {
     pub counts: Counts,
 }
 
-pub fn write(editions: &[Measured; 2]) -> String {
+pub fn write(editions: &[Measured; 2], files: &FileSpeeds) -> String {
     let mut text = String::from("# Speed of the conversion\n\n");
     text += &machine::words();
     let _ = writeln!(
@@ -33,8 +34,9 @@ pub fn write(editions: &[Measured; 2]) -> String {
     for measured in editions {
         text += &edition(measured);
     }
-    text += &agreement(editions);
-    text += &goals::write(editions);
+    text += &self::files(files);
+    text += &agreement(editions, files);
+    text += &goals::write(editions, files);
     text
 }
 
@@ -70,6 +72,23 @@ pub fn edition(measured: &Measured) -> String {
     text += &checks(&speeds.sizes, &speeds.checks);
     let _ = writeln!(text, "{head} instructions of one conversion (callgrind)\n");
     text += &instructions(&speeds.sizes, counts);
+    text
+}
+
+/// The table of VDatum files.
+pub fn files(files: &FileSpeeds) -> String {
+    let mut text = String::from("\n## VDatum files: nodes converted per second\n\n");
+    text += "file | library | i128 | library / i128 | library, seconds a file |\n";
+    text += "---|---:|---:|---:|---:|\n";
+    for file in &files.files {
+        let [library, plain] = file.nodes_per_second();
+        let (first, second) = (grouped(library), grouped(plain));
+        let (words, ratio, seconds) = (file.words(), library / plain, file.seconds[0]);
+        let _ = writeln!(
+            text,
+            "{words} | {first} | {second} | {ratio:.2} | {seconds:.4} |"
+        );
+    }
     text
 }
 
@@ -160,15 +179,18 @@ fn instructions(sizes: &[String], counts: &Counts) -> String {
     text
 }
 
-fn agreement(editions: &[Measured; 2]) -> String {
+fn agreement(editions: &[Measured; 2], files: &FileSpeeds) -> String {
     let [others, taken] = [OTHER_FIXES, LENGTH_OF_DISTANCE].map(|count| grouped(count as f64));
     let size = size_words(SIZE_OF_LENGTHS);
     let mut text = format!(
         "\n## Agreement\n\nThe library and the i128 implementation gave the same answers to all \
          fixes above, and to {others} more on, near and past the bounds of each grid of \
          corrections and, in edition 2, of heights; also over an image of edition 2 whose heights \
-         leave out part of the corrections, where fixes get number 15. On the grids of {size} the \
-         answers to {taken} fixes lie at most so far from the library's:\n\n"
+         leave out part of the corrections, where fixes get number 15. They converted all files \
+         above to the same nodes and geometry, and refused {} others with the same number, 16 or 17, \
+         and nothing changed. On the grids of {size} the answers to {taken} fixes lie at most so far \
+         from the library's:\n\n",
+        files.refused
     );
     text += "edition | f64, nd | f64, units | PROJ, nd | PROJ, units |\n";
     text += "---|---:|---:|---:|---:|\n";

@@ -1,5 +1,5 @@
 /* The figures of document 01, starred and unstarred, each by name, put to the built library; and figures of our own for images of
- * edition 2, which document 02 has none for. Prints `ok NAME` or `FAILED NAME`. */
+ * edition 2 and for VDatum files, which document 02 has none for. Prints `ok NAME` or `FAILED NAME`. */
 #include <inttypes.h>
 #include <stdio.h>
 #include <string.h>
@@ -179,6 +179,93 @@ static void refusals_of_edition_2(void) {
     tell("edition 2: one height of 1,000,001 gives 9", check_refuses(&image, 9));
 }
 
+/* A VDatum file of 2 rows and 3 columns, 64 bytes, and its nodes, 24. */
+enum { HEIGHTS = 6, NODES_LENGTH = HEIGHTS * MARKER_HEIGHT_NODE_LENGTH, FILE_LENGTH = MARKER_VDATUM_HEADER_LENGTH + NODES_LENGTH };
+
+/* A number of so many bytes, the highest first. */
+static uint8_t *put_high_first(uint8_t *at, uint64_t value, int bytes) {
+    for (int i = bytes - 1; i >= 0; i--) {
+        *at++ = (uint8_t)(value >> (8 * i));
+    }
+    return at;
+}
+
+/* The file, with one byte more for a length that is wrong: from 52 and 5 degrees, spacings 0.01 and 0.0125 degrees; heights of 43 m,
+ * 43.1234 m, 1/32 m, -1/32 m, -0 m and the last float that rounds to -100 m. */
+static void vdatum(uint8_t file[FILE_LENGTH + 1]) {
+    const uint64_t angles[] = {0x404A000000000000, 0x4014000000000000, 0x3F847AE147AE147B, 0x3F8999999999999A};
+    const uint64_t heights[HEIGHTS] = {0x422C0000, 0x422C7E5D, 0x3D000000, 0xBD000000, 0x80000000, 0xC2C80006};
+    uint8_t *at = file;
+    for (int i = 0; i < 4; i++) {
+        at = put_high_first(at, angles[i], 8);
+    }
+    at = put_high_first(put_high_first(at, 2, 4), 3, 4);
+    for (int i = 0; i < HEIGHTS; i++) {
+        at = put_high_first(at, heights[i], 4);
+    }
+    *at = 0;
+}
+
+/* Is this what the file becomes? */
+static bool converts(const uint8_t *file, const int64_t heights[HEIGHTS], const int64_t wanted[MARKER_GEOMETRY_LENGTH]) {
+    uint8_t nodes[NODES_LENGTH], wanted_nodes[NODES_LENGTH];
+    int64_t geometry[MARKER_GEOMETRY_LENGTH];
+    for (int i = 0; i < HEIGHTS; i++) {
+        put(wanted_nodes + i * MARKER_HEIGHT_NODE_LENGTH, heights[i], MARKER_HEIGHT_NODE_LENGTH);
+    }
+    return marker_heights_from_vdatum(file, FILE_LENGTH, nodes, NODES_LENGTH, geometry) == MARKER_DONE &&
+           memcmp(nodes, wanted_nodes, NODES_LENGTH) == 0 && memcmp(geometry, wanted, sizeof geometry) == 0;
+}
+
+/* Is this the number of a file and a buffer of these lengths, and are buffer and geometry as they were? */
+static bool file_refused(const uint8_t *file, size_t file_length, size_t nodes_length, int64_t number) {
+    uint8_t nodes[NODES_LENGTH + 1], nodes_before[NODES_LENGTH + 1];
+    int64_t geometry[MARKER_GEOMETRY_LENGTH], geometry_before[MARKER_GEOMETRY_LENGTH];
+    memset(nodes_before, 0xA5, sizeof nodes);
+    memset(geometry_before, 0xA5, sizeof geometry);
+    memcpy(nodes, nodes_before, sizeof nodes);
+    memcpy(geometry, geometry_before, sizeof geometry);
+    return marker_heights_from_vdatum(file, file_length, nodes, nodes_length, geometry) == number &&
+           memcmp(nodes, nodes_before, sizeof nodes) == 0 && memcmp(geometry, geometry_before, sizeof geometry) == 0;
+}
+
+/* The same for the file with other bytes at a place, the highest first. */
+static bool changed_refused(size_t place, uint64_t value, int bytes, int64_t number) {
+    uint8_t file[FILE_LENGTH + 1];
+    vdatum(file);
+    put_high_first(file + place, value, bytes);
+    return file_refused(file, FILE_LENGTH, NODES_LENGTH, number);
+}
+
+static void figures_of_vdatum(void) {
+    uint8_t file[FILE_LENGTH + 1];
+    vdatum(file);
+    tell("VDatum: 43, 43.1234, 1/32, -1/32, -0 and -100.00004577 m give 430000 431234 313 -312 0 -1000000",
+         converts(file, (int64_t[]){430000, 431234, 313, -312, 0, -1000000}, (int64_t[]){SOUTH, WEST, 10000000, 12500000, 2, 3}));
+    put_high_first(put_high_first(file, 0xBF50000000000000, 8), 0x3F50000000000000, 8);
+    put_high_first(put_high_first(file + 40, 1, 4), 0x42C80006, 4);
+    tell("VDatum: from -1/1024 and 1/1024 degrees, -976562 and 976563; a subnormal height is 0, 100.00004577 m 1000000",
+         converts(file, (int64_t[]){0, 1000000, 313, -312, 0, -1000000}, (int64_t[]){-976562, 976563, 10000000, 12500000, 2, 3}));
+}
+
+static void refusals_of_vdatum(void) {
+    uint8_t file[FILE_LENGTH + 1];
+    vdatum(file);
+    tell("VDatum: 39 bytes give 16", file_refused(file, 39, NODES_LENGTH, 16));
+    tell("VDatum: a file one byte shorter gives 16", file_refused(file, FILE_LENGTH - 1, NODES_LENGTH, 16));
+    tell("VDatum: a file one byte longer gives 16", file_refused(file, FILE_LENGTH + 1, NODES_LENGTH, 16));
+    tell("VDatum: a buffer one byte shorter gives 16", file_refused(file, FILE_LENGTH, NODES_LENGTH - 1, 16));
+    tell("VDatum: a buffer one byte longer gives 16", file_refused(file, FILE_LENGTH, NODES_LENGTH + 1, 16));
+    tell("VDatum: an infinite latitude gives 16", changed_refused(0, 0x7FF0000000000000, 8, 16));
+    tell("VDatum: a spacing that rounds to 0 gives 16", changed_refused(16, 1, 8, 16));
+    tell("VDatum: one row of 6 columns gives 16", changed_refused(32, 0x0000000100000006, 8, 16));
+    tell("VDatum: -2 rows of -3 columns give 16", changed_refused(32, 0xFFFFFFFEFFFFFFFD, 8, 16));
+    tell("VDatum: a last height that is no number gives 17", changed_refused(60, 0x7FC00000, 4, 17));
+    tell("VDatum: a last height of 100.00005341 m gives 17", changed_refused(60, 0x42C80007, 4, 17));
+    put_high_first(put_high_first(file + 36, 4, 4), 0x7FC00000, 4);
+    tell("VDatum: 16 comes before 17", file_refused(file, FILE_LENGTH, NODES_LENGTH, 16));
+}
+
 static void figures_of_notation(void) {
     int64_t nd = 0;
     bool read = marker_read_notation(false, 52, 5, 2987000, 'N', &nd) == MARKER_DONE;
@@ -195,5 +282,7 @@ int main(void) {
     figures_of_notation();
     figures_of_edition_2();
     refusals_of_edition_2();
+    figures_of_vdatum();
+    refusals_of_vdatum();
     return failures == 0 ? 0 : 1;
 }

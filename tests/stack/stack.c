@@ -1,6 +1,6 @@
 /* Measures how much stack each call of the built library writes: not more than the figure in marker.h. Prints `ok NAME` or
- * `FAILED NAME` for each call. An image of a few nodes around grid G's is read from standard input, of edition 1 or 2; the notation is
- * measured with edition 1.
+ * `FAILED NAME` for each call. An image of a few nodes around grid G's is read from standard input, of edition 1 or 2; notations and
+ * VDatum files are measured with edition 1.
  *
  * A call is made on a stack of its own that is filled with one byte; what has another byte afterwards was written. */
 #include <inttypes.h>
@@ -18,6 +18,15 @@ typedef void function(void);
 
 static uint8_t image[MOST_BYTES];
 static size_t size; /* of the image */
+
+/* A VDatum file: 2 rows and 3 columns from 52 and 5 degrees, spacings 0.01 and 0.0125 degrees; heights of 43 m, 43.1234 m, 1/32 m, -1/32 m,
+ * -0 m and the last float that rounds to -100 m. */
+static uint8_t vdatum[] = {
+    0x40, 0x4A, 0, 0, 0, 0, 0, 0, 0x40, 0x14, 0, 0, 0, 0, 0, 0,
+    0x3F, 0x84, 0x7A, 0xE1, 0x47, 0xAE, 0x14, 0x7B, 0x3F, 0x89, 0x99, 0x99, 0x99, 0x99, 0x99, 0x9A,
+    0, 0, 0, 2, 0, 0, 0, 3,
+    0x42, 0x2C, 0, 0, 0x42, 0x2C, 0x7E, 0x5D, 0x3D, 0, 0, 0, 0xBD, 0, 0, 0, 0x80, 0, 0, 0, 0xC2, 0xC8, 0, 6};
+
 static _Alignas(16) uint8_t stack[STACK_SIZE];
 static int failures = 0;
 
@@ -55,26 +64,36 @@ static void list(function *called) {
                                SIDE * SIDE * MARKER_ANSWER_LENGTH});
 }
 
-/* Some calls on the image, and on it with each byte in turn changed. */
-static void on_images(function *called, void (*calls)(function *)) {
+static void conversion(function *called) {
+    uint8_t nodes[sizeof vdatum - MARKER_VDATUM_HEADER_LENGTH];
+    int64_t geometry[MARKER_GEOMETRY_LENGTH];
+    call(called, (uint64_t[6]){(uintptr_t)vdatum, sizeof vdatum, (uintptr_t)nodes, sizeof nodes, (uintptr_t)geometry});
+}
+
+/* Some calls on these bytes, and on them with each byte in turn changed. */
+static void on_changed(uint8_t *bytes, size_t length, function *called, void (*calls)(function *)) {
     const uint8_t changes[] = {0, 1, 127, 255};
     calls(called);
-    for (size_t i = 0; i < size; i++) {
-        uint8_t before = image[i];
+    for (size_t i = 0; i < length; i++) {
+        uint8_t before = bytes[i];
         for (size_t k = 0; k < sizeof changes; k++) {
-            image[i] = changes[k];
+            bytes[i] = changes[k];
             calls(called);
         }
-        image[i] = before;
+        bytes[i] = before;
     }
 }
 
 static void checks(function *called) {
-    on_images(called, check);
+    on_changed(image, size, called, check);
 }
 
 static void lists(function *called) {
-    on_images(called, list);
+    on_changed(image, size, called, list);
+}
+
+static void conversions(function *called) {
+    on_changed(vdatum, sizeof vdatum, called, conversion);
 }
 
 static void readings(function *called) {
@@ -125,6 +144,7 @@ int main(void) {
     if (edition() == 1) {
         measure("marker_read_notation", (function *)marker_read_notation, readings, MARKER_READ_NOTATION_STACK);
         measure("marker_write_notation", (function *)marker_write_notation, writings, MARKER_WRITE_NOTATION_STACK);
+        measure("marker_heights_from_vdatum", (function *)marker_heights_from_vdatum, conversions, MARKER_HEIGHTS_FROM_VDATUM_STACK);
     }
     return failures == 0 ? 0 : 1;
 }

@@ -1,8 +1,11 @@
-//! Document 01's figures for its grid G, and figures of edition 2 on G's corrections.
+//! Document 01's figures for its grid G, figures of edition 2 on G's corrections, and figures of
+//! VDatum files.
 
 mod edition_1;
 mod edition_2;
 mod edition_2_images;
+mod vdatum;
+mod vdatum_files;
 
 use super::list;
 use crate::grid::{Geometry, Grid};

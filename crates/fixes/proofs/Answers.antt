@@ -1,27 +1,22 @@
 -- The content of the answer list, fixed for every index: five numbers for each fix, which are those of the fix's conversion. A loop that
 -- has written the first k answers writes one more.
-use mathlib.Core.List.{List, [], _∷_, _++_, append-assoc}
+use mathlib.Core.List.{List, [], _∷_, _++_}
 use mathlib.Core.Path.{_≡_, refl, sym, _∙_}
 use Prim.Native.Nat.{ℕ, zero, suc, _+_, _*_, _-_, _≤_, _<_}
 use native.Mathlib.Omega.{arith}
 use lib.IntN.{ℤ}
 use lib.ListN.{length, take, drop, length-append}
-use lib.Seq.{take-all, take-at, take-add, length-take-le, drop-append-add}
+use lib.Seq.{take-all, take-at, take-add, drop-append-add}
 use Rattle.rules.specs.declared.Point.{Point}
 use Rattle.rules.specs.declared.Position.{Position}
 use Rattle.rules.specs.Answers.{Outcome, values, number}
 use Rattle.rules.specs.Lists.{fiveOf, answersOf}
+use Rattle.rules.proofs.Lent.{front}
 use Rattle.fixes.specs.Fix.{fixPoint, atFix}
 
 five-long : (a : Outcome Position) → length (fiveOf a) ≡ 5
 five-long (values p) = refl
 five-long (number n) = refl
-
--- The front of a list whose part from n on was lent, and has v at its own front since.
-front : (l v rest post : List ℤ) (n : ℕ) → n ≤ length l → take (n + length v) (take n l ++ ((v ++ rest) ++ post)) ≡ take n l ++ v
-front l v rest post n h =
-    rw (append-assoc v rest post, ← append-assoc (take n l) v (rest ++ post))
-    (take-at (take n l ++ v) (rest ++ post) (n + length v) (rw (length-append, length-take-le)))
 
 module _ (single : Point → ℤ → Outcome Position) where
   -- Five numbers for each fix.

@@ -13,7 +13,7 @@ use rules::SPACING_MOST;
 ghost use mathlib.Core.Path.{_≡_};
 ghost use Prim.Native.Nat.{_≤_};
 ghost use Rattle.rules.specs.Units.{longitudeLimit};
-ghost use Rattle.rules.specs.Questions.{question3, question4, boundsWithin, question5};
+ghost use Rattle.rules.specs.Questions.{question3, question4, boundsWithin, question5, questions3To5};
 ghost use Rattle.rules.specs.Limits.{Sized, GeometryPasses};
 ghost use Rattle.rules.specs.Lookup.{inside};
 
@@ -60,6 +60,21 @@ fn bounds_within(limit: u64, a: Axis) -> bool
 {
     if is_within(a.start, limit) {
         is_within(far_bound(a), limit)
+    } else {
+        false
+    }
+}
+
+// Questions 3 to 5 together.
+pub fn questions_pass(g: Geometry) -> bool
+    ensures { λ r. ⌜ r ≡ questions3To5 g ⌝ }
+{
+    if counts_pass(g) {
+        if spacings_pass(g) {
+            bounds_pass(g)
+        } else {
+            false
+        }
     } else {
         false
     }

@@ -5,15 +5,19 @@ use notation::read_notation;
 use notation::write_notation;
 use refusals::refusal_number;
 use rules::Checked;
+use rules::FileAnswer;
 use rules::Notation;
 use rules::Reading;
 use rules::Writing;
 use slopes::grid_check;
+use vdatum::heights_from_vdatum;
 ghost use mathlib.Core.Path.{_≡_};
+ghost use lib.ListN.{length};
 ghost use Rattle.rules.specs.Answers.{statusOf, after};
 ghost use Rattle.rules.specs.Check.{gridCheck, findingsAfter};
 ghost use Rattle.rules.specs.Lists.{listOut, listBack, afterOut, afterBack};
 ghost use Rattle.rules.specs.Notation.{readParts, writeNotation, notationAfter};
+ghost use Rattle.rules.specs.Vdatum.{heightsFrom, heightsAfter, geometryAfter};
 
 // The grid check: 0 with the six findings written, or the number.
 #[no_mangle]
@@ -99,5 +103,35 @@ pub extern "C" fn marker_write_notation(longitude: bool, nd: i64, notation: &mut
             0
         }
         Writing::Refused(r) => refusal_number(r),
+    }
+}
+
+// The conversion of a VDatum file: 0 with the height nodes and the geometry written, or the number.
+#[no_mangle]
+pub extern "C" fn marker_heights_from_vdatum(
+    file: &[u8],
+    nodes: &mut [u8],
+    geometry: &mut [i64; 6],
+) -> i64
+    ensures number { λ r. ⌜ r ≡ statusOf (heightsFrom (now (file .entry)) (length (now (nodes .entry)))) ⌝ }
+    ensures nodes { λ _. ⌜ now (nodes .exit) ≡ heightsAfter (now (file .entry)) (now (nodes .entry)) ⌝ }
+    ensures geometry { λ _. ⌜ now (geometry .exit)
+        ≡ geometryAfter (heightsFrom (now (file .entry)) (length (now (nodes .entry)))) (now (geometry .entry)) ⌝ }
+{
+    match heights_from_vdatum(file, nodes) {
+        FileAnswer::Converted(g) => {
+            let latitude = g.latitude;
+            let longitude = g.longitude;
+            *geometry = [
+                latitude.start,
+                longitude.start,
+                latitude.spacing as i64,
+                longitude.spacing as i64,
+                latitude.count as i64,
+                longitude.count as i64,
+            ];
+            0
+        }
+        FileAnswer::Refused(r) => refusal_number(r),
     }
 }

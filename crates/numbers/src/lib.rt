@@ -1,5 +1,5 @@
-// Numbers as the machine holds them: the size of a signed number, the distance of two, limits, the smaller and the larger of two, and the
-// little-endian numbers of an image.
+// Numbers as the machine holds them: the size of a signed number, the distance of two, limits, the smaller and the larger of two, the
+// little-endian numbers of an image, and the big-endian ones of a VDatum file.
 ghost use mathlib.Core.Bool.{_&&_};
 ghost use mathlib.Core.Path.{_≡_};
 ghost use Prim.Native.Nat.{_+_, _≤_, _<_, min, max};
@@ -7,6 +7,7 @@ ghost use lib.IntN.{pos, natAbs, _-ℤ_};
 ghost use lib.ListN.{length};
 ghost use Rattle.rules.specs.Units.{between, within};
 ghost use Rattle.rules.specs.Image.{twosComplement, u32At, i32At, i64At};
+ghost use Rattle.rules.specs.Vdatum.{bigU32At, bigU64At, bigI32At};
 
 // The distance from zero.
 pub fn magnitude(z: i64) -> u64
@@ -133,4 +134,28 @@ pub fn i64_at(s: &[u8], at: usize) -> i64
     ensures { λ r. ⌜ r ≡ i64At (now (s .entry)) at ⌝ }
 {
     signed64(u32_at(s, at) + 4294967296 * u32_at(s, at + 4))
+}
+
+// The unsigned number of four bytes, the highest first.
+pub fn big_u32_at(s: &[u8], at: usize) -> u64
+    requires { ⌜ at + 4 ≤ length (now s) ⌝ }
+    ensures { λ r. ⌜ (r ≡ bigU32At (now (s .entry)) at) × (r < 4294967296) ⌝ }
+{
+    wide(s[at + 3]) + 256 * wide(s[at + 2]) + 65536 * wide(s[at + 1]) + 16777216 * wide(s[at])
+}
+
+// The unsigned number of eight bytes.
+pub fn big_u64_at(s: &[u8], at: usize) -> u64
+    requires { ⌜ at + 8 ≤ length (now s) ⌝ }
+    ensures { λ r. ⌜ r ≡ bigU64At (now (s .entry)) at ⌝ }
+{
+    big_u32_at(s, at + 4) + 4294967296 * big_u32_at(s, at)
+}
+
+// The signed number of four bytes.
+pub fn big_i32_at(s: &[u8], at: usize) -> i64
+    requires { ⌜ at + 4 ≤ length (now s) ⌝ }
+    ensures { λ r. ⌜ r ≡ bigI32At (now (s .entry)) at ⌝ }
+{
+    signed32(big_u32_at(s, at))
 }

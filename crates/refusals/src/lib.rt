@@ -24,5 +24,7 @@ pub fn refusal_number(r: Refusal) -> i64
         Refusal::BadNotation => 13,
         Refusal::ListLengths => 14,
         Refusal::OffHeightGrid => 15,
+        Refusal::VdatumFile => 16,
+        Refusal::VdatumHeight => 17,
     }
 }

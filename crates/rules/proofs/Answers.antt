@@ -10,6 +10,11 @@ pub asked : {A : Type 0} (t : Bool) (n : ℕ) (next : Outcome A) (a : A) → ask
 asked true n next a h = (refl, h)
 asked false n next a h = let z : _≡_ {A = ℕ} 0 1 = cc in absurd (omega arith)
 
+-- Where values would come next, a number is that of the question, which was answered no.
+pub asked-no : {A : Type 0} (t : Bool) (n : ℕ) (a : A) (m : ℕ) → ask t n (values a) ≡ number m → (t ≡ false) × (m ≡ n)
+asked-no true n a m h = let z : _≡_ {A = ℕ} 0 1 = cc in absurd (omega arith)
+asked-no false n a m h = (refl, cc)
+
 -- Where values came next, the step before gave values.
 pub followed : {A B : Type 0} (o : Outcome A) (next : A → Outcome B) (b : B) → andThen o next ≡ values b
     → (a : A) × (o ≡ values a) × (next a ≡ values b)

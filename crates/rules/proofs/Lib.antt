@@ -1,6 +1,7 @@
 -- Laws about the rules, for the crates above.
 pub mod Examples
 pub mod HeightGrid
+pub mod VdatumFile
 pub mod Answers
 pub mod Opening
 pub mod Cells
@@ -10,3 +11,4 @@ pub mod Slopes
 pub mod Weights
 pub mod Evaluations
 pub mod Corners
+pub mod Lent

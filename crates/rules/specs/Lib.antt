@@ -12,7 +12,8 @@
 --     A × B, (x : A) × C       both A and B; an x of A for which C holds
 --     Bool, ℕ, ℤ               true or false; the numbers from 0 up, `zero` and `suc n`, which is n + 1; all whole numbers, `pos n`, which
 --                              is n, and `negsuc n`, which is −(n + 1)
---     _+_ _-_ _*_ _/_ _%_      on ℕ: a - b is 0 where b is above a; a / b is rounded down, a % b is the remainder; `min` and `max`
+--     _+_ _-_ _*_ _/_ _%_ _^_  on ℕ: a - b is 0 where b is above a; a / b is rounded down, a % b is the remainder, a ^ b the power; `min`
+--                              and `max`
 --     _+ℤ_ _-ℤ_ _*ℤ_ negℤ      on ℤ: sum, difference, product, negative; `natAbs`, the absolute value, in ℕ
 --     leb ltb eqb, leZ ltZ     the answer, true or false, to: at most, below, equal, on ℕ; at most, below, on ℤ
 --     _&&_ _||_ cond           and, or; `cond t a b` is a where t is true, else b
@@ -39,6 +40,8 @@ pub mod Ways
 pub mod Check
 pub mod Lists
 pub mod Notation
+pub mod Floats
+pub mod Vdatum
 pub mod Promise
 pub mod Trip
 pub mod Figures

@@ -40,6 +40,10 @@ boundsWithin limit a = within limit (a .start) && within limit (farBound a)
 unfoldable pub question5 : Geometry → Bool
 question5 g = boundsWithin latitudeLimit (g .latitude) && boundsWithin longitudeLimit (g .longitude)
 
+-- 3 to 5 together, as the refusals of grid files (document 02, notes 2 and 4) take them.
+unfoldable pub questions3To5 : Geometry → Bool
+questions3To5 g = question3 g && (question4 g && question5 g)
+
 -- 6. Is back equal to 12 × rows × columns + 40, and not above the length?
 unfoldable pub backPasses : (back wanted size : ℕ) → Bool
 backPasses back wanted size = eqb back wanted && leb back size

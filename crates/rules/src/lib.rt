@@ -146,7 +146,19 @@ pub struct Notation {
     pub letter: u8,
 }
 
-// The refusals, in the order of their questions' numbers, 1 to 15.
+// The bits of a float, the lowest first: so many of its fraction, so many of its exponent, and one of its sign.
+pub struct FloatFormat {
+    pub fraction: u64,
+    pub exponent: u64,
+}
+
+// A factor, over / under.
+pub struct Scale {
+    pub over: u64,
+    pub under: u64,
+}
+
+// The refusals, in the order of their numbers, 1 to 17.
 pub enum Refusal {
     ImageLength,
     Edition,
@@ -163,6 +175,8 @@ pub enum Refusal {
     BadNotation,
     ListLengths,
     OffHeightGrid,
+    VdatumFile,
+    VdatumHeight,
 }
 
 // What opening an image answers: whether its heights stand on a separate grid, which with its trailer says where its values lie; or a
@@ -199,6 +213,12 @@ pub enum Reading {
 // What writing an angle answers.
 pub enum Writing {
     Written(Notation),
+    Refused(Refusal),
+}
+
+// What the conversion of a grid file answers: the geometry of the nodes that it wrote.
+pub enum FileAnswer {
+    Converted(Geometry),
     Refused(Refusal),
 }
 

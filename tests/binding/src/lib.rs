@@ -57,4 +57,11 @@ extern "C" {
         nd: *mut i64,
     ) -> i64;
     pub fn marker_write_notation(longitude: bool, nd: i64, notation: *mut u64) -> i64;
+    pub fn marker_heights_from_vdatum(
+        file: *const u8,
+        file_length: usize,
+        nodes: *mut u8,
+        nodes_length: usize,
+        geometry: *mut i64,
+    ) -> i64;
 }

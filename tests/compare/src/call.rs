@@ -13,6 +13,13 @@ pub struct List {
     pub answers_length: usize,
 }
 
+/// What the conversion of a VDatum file is given.
+#[derive(Clone, Debug, PartialEq, Eq)]
+pub struct File {
+    pub bytes: Vec<u8>,
+    pub buffer_length: usize,
+}
+
 /// A call with all that it is given.
 #[derive(Clone, Debug, PartialEq, Eq)]
 pub enum Call {
@@ -20,20 +27,23 @@ pub enum Call {
     List(List),
     ReadNotation { axis: Axis, notation: Notation },
     WriteNotation { axis: Axis, nd: i64 },
+    HeightsFromVdatum(File),
 }
 
-/// What a call did: its number, what the memory lent for its values holds afterwards, and whether
-/// the memory lent for reading and everything beside the lent parts is unchanged.
+/// What a call did: its number, what the memory lent for its values and for nodes holds
+/// afterwards, and whether the memory lent for reading and everything beside the lent parts is
+/// unchanged.
 #[derive(Clone, Debug, PartialEq, Eq)]
 pub struct Outcome {
     pub number: Number,
     pub written: Vec<i64>,
+    pub nodes: Vec<u8>,
     pub rest_unchanged: bool,
 }
 
 /// What memory for values holds before a call: no call gives such values.
 const UNWRITTEN: i64 = 0x5EED_0000_0000_0000;
-const IMAGE_GUARD: u8 = 0xA5;
+const BYTE_GUARD: u8 = 0xA5;
 
 impl Call {
     /// The image that the call takes, if it takes one.
@@ -41,11 +51,12 @@ impl Call {
         match self {
             Call::GridCheck { image } | Call::List(List { image, .. }) => Some(image),
             Call::ReadNotation { .. } | Call::WriteNotation { .. } => None,
+            Call::HeightsFromVdatum(_) => None,
         }
     }
 
-    /// Performs the call over memory of its own. The shift moves the lent image by some bytes, so
-    /// that it stands at every kind of address.
+    /// Performs the call over memory of its own. The shift, 0 to 7, moves the lent image or file by
+    /// so many bytes, so that it stands at every kind of address.
     pub fn perform(&self, converter: &dyn Converter, shift: usize) -> Outcome {
         match self {
             Call::GridCheck { image } => perform_check(converter, image, shift),
@@ -56,12 +67,13 @@ impl Call {
                 outcome(number, &nd, true)
             }
             Call::WriteNotation { axis, nd } => perform_writing(converter, *axis, *nd),
+            Call::HeightsFromVdatum(file) => perform_file(converter, file, shift),
         }
     }
 }
 
 fn perform_check(converter: &dyn Converter, image: &[u8], shift: usize) -> Outcome {
-    let mut lent_image = Lent::new(image, shift, IMAGE_GUARD);
+    let mut lent_image = Lent::new(image, shift, BYTE_GUARD);
     let mut findings = unwritten(6);
     let findings_part = findings.part().try_into().expect("six findings");
     let number = converter.grid_check(lent_image.part(), findings_part);
@@ -69,7 +81,7 @@ fn perform_check(converter: &dyn Converter, image: &[u8], shift: usize) -> Outco
 }
 
 fn perform_list(converter: &dyn Converter, list: &List, shift: usize) -> Outcome {
-    let mut image = Lent::new(&list.image, shift, IMAGE_GUARD);
+    let mut image = Lent::new(&list.image, shift, BYTE_GUARD);
     let mut fixes = Lent::new(&list.fixes, 0, UNWRITTEN);
     let mut answers = unwritten(list.answers_length);
     let number = converter.list(list.way, image.part(), fixes.part(), answers.part());
@@ -85,7 +97,24 @@ fn perform_writing(converter: &dyn Converter, axis: Axis, nd: i64) -> Outcome {
     Outcome {
         number,
         written: notation.values().iter().map(|it| *it as i64).collect(),
+        nodes: Vec::new(),
         rest_unchanged: notation.guards_hold(),
+    }
+}
+
+/// The buffer for nodes is moved by other bytes than the file, so that each of them ends right
+/// before the closed page in its turn.
+fn perform_file(converter: &dyn Converter, file: &File, shift: usize) -> Outcome {
+    let mut bytes = Lent::new(&file.bytes, shift, BYTE_GUARD);
+    let marks: Vec<u8> = (0..file.buffer_length).map(byte_mark).collect();
+    let mut nodes = Lent::new(&marks, 7 - shift, BYTE_GUARD);
+    let mut geometry = unwritten(6);
+    let geometry_part = geometry.part().try_into().expect("six numbers");
+    let number = converter.heights_from_vdatum(bytes.part(), nodes.part(), geometry_part);
+    let rest_unchanged = bytes.still_holds(&file.bytes) && nodes.guards_hold();
+    Outcome {
+        nodes: nodes.values().to_vec(),
+        ..outcome(number, &geometry, rest_unchanged)
     }
 }
 
@@ -93,6 +122,7 @@ fn outcome(number: Number, values: &Lent<i64>, inputs_unchanged: bool) -> Outcom
     Outcome {
         number,
         written: values.values().to_vec(),
+        nodes: Vec::new(),
         rest_unchanged: inputs_unchanged && values.guards_hold(),
     }
 }
@@ -100,6 +130,12 @@ fn outcome(number: Number, values: &Lent<i64>, inputs_unchanged: bool) -> Outcom
 /// What stands at an index of memory for values before the call.
 pub fn mark(index: usize) -> i64 {
     UNWRITTEN + index as i64
+}
+
+/// What stands at an index of the buffer for nodes before the call: neither 0 nor 255, the most
+/// frequent bytes of heights, and not what stands beside it.
+pub fn byte_mark(index: usize) -> u8 {
+    0x80 + (index % 64) as u8
 }
 
 /// Memory for so many values, each marked by its index.

@@ -2,8 +2,9 @@
 
 use crate::{Case, Stream};
 
-pub const USAGE: &str = "usage: compare [--edition 1|2] [--seed N] [--count N] [--progress]
-       compare [--edition 1|2] --replay SEED:INDEX";
+pub const USAGE: &str =
+    "usage: compare [--edition 1|2 | --files] [--seed N] [--count N] [--progress]
+       compare [--edition 1|2 | --files] --replay SEED:INDEX";
 
 /// What the program is asked to do.
 #[derive(Clone, Debug, PartialEq, Eq)]
@@ -18,14 +19,15 @@ pub enum Command {
     Replay(Case),
 }
 
-/// Reads the words of the command line; nothing if they cannot be understood. Without an edition
-/// a run takes both, and a replay edition 1.
+/// Reads the words of the command line; nothing if they cannot be understood. Where they name no
+/// stream, a run takes all of them, and a replay edition 1's.
 pub fn parse(mut words: impl Iterator<Item = String>) -> Option<Command> {
     let (mut seed, mut count, mut progress) = (1, 20_000, false);
     let (mut streams, mut replay) = (Stream::ALL.to_vec(), None);
     while let Some(word) = words.next() {
         match word.as_str() {
             "--edition" => streams = vec![Stream::of_edition(words.next()?.parse().ok()?)?],
+            "--files" => streams = vec![Stream::Files],
             "--seed" => seed = words.next()?.parse().ok()?,
             "--count" => count = words.next()?.parse().ok()?,
             "--progress" => progress = true,
@@ -67,12 +69,14 @@ mod tests {
                 progress,
             })
         };
-        let both = [Stream::EditionOne, Stream::EditionTwo];
-        assert_eq!(parsed(""), run(&both, 1, 20_000, false));
+        let all = [Stream::EditionOne, Stream::EditionTwo, Stream::Files];
+        assert_eq!(parsed(""), run(&all, 1, 20_000, false));
         let line = "--count 7 --progress --seed 3";
-        assert_eq!(parsed(line), run(&both, 3, 7, true));
+        assert_eq!(parsed(line), run(&all, 3, 7, true));
         let second = run(&[Stream::EditionTwo], 1, 7, false);
         assert_eq!(parsed("--edition 2 --count 7"), second);
+        let files = run(&[Stream::Files], 1, 7, false);
+        assert_eq!(parsed("--files --count 7"), files);
     }
 
     #[test]
@@ -87,6 +91,7 @@ mod tests {
         assert_eq!(parsed("--replay 3:41"), replay(Stream::EditionOne));
         let second = "--edition 2 --replay 3:41";
         assert_eq!(parsed(second), replay(Stream::EditionTwo));
+        assert_eq!(parsed("--files --replay 3:41"), replay(Stream::Files));
     }
 
     #[test]

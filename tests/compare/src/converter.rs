@@ -1,13 +1,13 @@
-//! What is compared: any implementation of document 01's calls, and the reference as one.
+//! What is compared: any implementation of the papers' calls, and the reference as one.
 
 use crate::Way;
-use reference::{Axis, Notation, Number};
+use reference::{Axis, Geometry, Notation, Number};
 
-/// The five calls. Each returns the paper's number, 0 for none, and leaves what it was lent
+/// The six calls. Each returns the papers' number, 0 for none, and leaves what it was lent
 /// unchanged unless the call gives values.
 ///
-/// Image and fixes are only read by a right converter. They are handed over as changeable so that
-/// the comparison sees a write by a wrong one.
+/// Image, fixes and file are only read by a right converter. They are handed over as changeable so
+/// that the comparison sees a write by a wrong one.
 pub trait Converter {
     fn grid_check(&self, image: &mut [u8], findings: &mut [i64; 6]) -> Number;
 
@@ -17,6 +17,14 @@ pub trait Converter {
 
     /// Writes degrees, minutes, hundred-thousandths and the letter's byte.
     fn write_notation(&self, axis: Axis, nd: i64, notation: &mut [u64; 4]) -> Number;
+
+    /// Writes south, west, latitude spacing, longitude spacing, rows and columns to the geometry.
+    fn heights_from_vdatum(
+        &self,
+        file: &mut [u8],
+        nodes: &mut [u8],
+        geometry: &mut [i64; 6],
+    ) -> Number;
 }
 
 /// The reference.
@@ -46,6 +54,19 @@ impl Converter for Reference {
         let written = reference::write_notation(axis, nd);
         number_after(written, |value| *notation = fields(value))
     }
+
+    fn heights_from_vdatum(
+        &self,
+        file: &mut [u8],
+        nodes: &mut [u8],
+        geometry: &mut [i64; 6],
+    ) -> Number {
+        let converted = reference::heights_from_vdatum(file, nodes.len());
+        number_after(converted, |heights| {
+            nodes.copy_from_slice(&heights.nodes);
+            *geometry = geometry_numbers(&heights.geometry);
+        })
+    }
 }
 
 /// Stores the values and gives 0, or gives the number alone.
@@ -66,5 +87,17 @@ pub fn fields(notation: Notation) -> [u64; 4] {
         notation.minutes,
         notation.hundred_thousandths,
         notation.letter.into(),
+    ]
+}
+
+/// A geometry as the six numbers that the C interface writes.
+pub fn geometry_numbers(geometry: &Geometry) -> [i64; 6] {
+    [
+        geometry.south,
+        geometry.west,
+        geometry.latitude_spacing.into(),
+        geometry.longitude_spacing.into(),
+        geometry.rows.into(),
+        geometry.columns.into(),
     ]
 }

@@ -1,12 +1,13 @@
-//! Which of the papers' numbers and counts a run has met.
+//! Which of the papers' numbers and counts a run has met, and over files which causes of refusals.
 
-use crate::{Call, Outcome, Stream, Way};
+use crate::{causes, Call, Cause, Outcome, Stream, Way};
 use std::fmt;
 
-/// A run of so many calls must meet every number of its stream and every count.
+/// A run of so many calls must meet every number of its stream and, over images, every count, over
+/// files every cause as the only one.
 pub const FULL_RUN: u64 = 200_000;
 
-/// How often each number and each count was met among the calls that the stream counts.
+/// How often each number, count and cause was met among the calls that the stream counts.
 #[derive(Clone, Debug)]
 pub struct Coverage {
     stream: Stream,
@@ -17,9 +18,11 @@ pub struct Coverage {
     pub fixes: u64,
     /// How often each number came, of calls and of fixes in lists. At 0: calls and fixes that
     /// gave values.
-    pub numbers: [u64; 16],
+    pub numbers: [u64; 18],
     /// How often the way out answered with each count, 1 to 5. At 0: never.
     pub counts: [u64; 6],
+    /// How often each cause was the only one to refuse a file.
+    pub only_causes: Vec<(Cause, u64)>,
 }
 
 impl Coverage {
@@ -30,8 +33,9 @@ impl Coverage {
             calls: 0,
             others: 0,
             fixes: 0,
-            numbers: [0; 16],
+            numbers: [0; 18],
             counts: [0; 6],
+            only_causes: Cause::all().into_iter().map(|cause| (cause, 0)).collect(),
         }
     }
 
@@ -43,32 +47,54 @@ impl Coverage {
         }
         self.calls += 1;
         self.numbers[outcome.number as usize] += 1;
-        let Call::List(list) = call else {
-            return;
-        };
-        if outcome.number != 0 {
-            return;
+        match call {
+            Call::List(list) if outcome.number == 0 => self.add_answers(list.way, outcome),
+            Call::HeightsFromVdatum(file) => {
+                if let [only] = causes(file)[..] {
+                    self.add_only_cause(only);
+                }
+            }
+            _ => {}
         }
+    }
+
+    fn add_answers(&mut self, way: Way, outcome: &Outcome) {
         for answer in outcome.written.chunks_exact(5) {
             self.fixes += 1;
             self.numbers[answer[4] as usize] += 1;
-            if list.way == Way::Out && answer[4] == 0 {
+            if way == Way::Out && answer[4] == 0 {
                 self.counts[answer[3] as usize] += 1;
             }
         }
     }
 
+    fn add_only_cause(&mut self, only: Cause) {
+        for (cause, times) in &mut self.only_causes {
+            *times += u64::from(*cause == only);
+        }
+    }
+
+    /// The numbers, then the counts or the causes that a full run must meet, in words, each with
+    /// how often it was met.
+    fn wanted(&self) -> Vec<(String, u64)> {
+        let numbers = self.stream.numbers().into_iter();
+        let numbers = numbers.map(|it| (format!("number {it}"), self.numbers[it as usize]));
+        if self.stream == Stream::Files {
+            let causes = self.only_causes.iter();
+            let causes = causes.map(|(cause, times)| (format!("only cause {cause:?}"), *times));
+            return numbers.chain(causes).collect();
+        }
+        let counts = (1..self.counts.len()).map(|it| (format!("count {it}"), self.counts[it]));
+        numbers.chain(counts).collect()
+    }
+
     /// What the stream should have met and did not, in words.
     pub fn missing(&self) -> Vec<String> {
-        let numbers = self
-            .stream
-            .numbers()
-            .filter(|number| self.numbers[*number as usize] == 0)
-            .map(|number| format!("{}: number {number} never occurred", self.stream));
-        let counts = (1..self.counts.len())
-            .filter(|count| self.counts[*count] == 0)
-            .map(|count| format!("{}: count {count} never occurred", self.stream));
-        numbers.chain(counts).collect()
+        self.wanted()
+            .into_iter()
+            .filter(|(_, times)| *times == 0)
+            .map(|(words, _)| format!("{}: {words} never occurred", self.stream))
+            .collect()
     }
 }
 
@@ -76,12 +102,11 @@ impl fmt::Display for Coverage {
     fn fmt(&self, to: &mut fmt::Formatter) -> fmt::Result {
         let (stream, calls, others) = (self.stream, self.calls, self.others);
         writeln!(to, "{stream}: {calls} calls, {others} others")?;
-        writeln!(to, "{} fixes in lists", self.fixes)?;
-        for (number, times) in self.numbers.iter().enumerate() {
-            writeln!(to, "number {number}: {times}")?;
+        if stream != Stream::Files {
+            writeln!(to, "{} fixes in lists", self.fixes)?;
         }
-        for (count, times) in self.counts.iter().enumerate().skip(1) {
-            writeln!(to, "count {count}: {times}")?;
+        for (words, times) in self.wanted() {
+            writeln!(to, "{words}: {times}")?;
         }
         Ok(())
     }

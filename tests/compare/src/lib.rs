@@ -5,6 +5,7 @@
 
 mod call;
 pub mod cases;
+mod causes;
 mod command;
 mod comparison;
 mod converter;
@@ -18,12 +19,14 @@ mod steps;
 mod stream;
 
 pub use binding::Way;
-pub use call::{Call, List, Outcome};
+pub use call::{Call, File, List, Outcome};
+pub use causes::{causes, Cause, NotFinite, Side};
 pub use command::{parse, Command, USAGE};
 pub use comparison::{compare, compare_case, Case, Difference};
-pub use converter::{Converter, Reference};
+pub use converter::{geometry_numbers, Converter, Reference};
 pub use coverage::{Coverage, FULL_RUN};
 pub use library::Library;
 pub use random::Random;
+pub use report::SHOWN_ROWS;
 pub use steps::{cell_of, points_on_the_way, points_until_the_stop, stop_rule_holds};
 pub use stream::Stream;

@@ -1,7 +1,9 @@
 //! The built library libmarker.a as a converter, through its C interface.
 
 use crate::{Converter, Way};
-use binding::{marker_grid_check, marker_read_notation, marker_write_notation};
+use binding::{
+    marker_grid_check, marker_heights_from_vdatum, marker_read_notation, marker_write_notation,
+};
 use reference::{Axis, Notation, Number};
 
 /// The linked library.
@@ -35,5 +37,22 @@ impl Converter for Library {
 
     fn write_notation(&self, axis: Axis, nd: i64, notation: &mut [u64; 4]) -> Number {
         unsafe { marker_write_notation(axis == Axis::Longitude, nd, notation.as_mut_ptr()) }
+    }
+
+    fn heights_from_vdatum(
+        &self,
+        file: &mut [u8],
+        nodes: &mut [u8],
+        geometry: &mut [i64; 6],
+    ) -> Number {
+        unsafe {
+            marker_heights_from_vdatum(
+                file.as_mut_ptr(),
+                file.len(),
+                nodes.as_mut_ptr(),
+                nodes.len(),
+                geometry.as_mut_ptr(),
+            )
+        }
     }
 }

@@ -1,7 +1,8 @@
 //! Compares the linked library libmarker.a with the reference on many made-up calls.
 
 use compare::{
-    compare, compare_case, parse, Case, Command, Coverage, Library, Stream, FULL_RUN, USAGE,
+    compare, compare_case, parse, Case, Command, Coverage, Library, Stream, FULL_RUN, SHOWN_ROWS,
+    USAGE,
 };
 use std::process::ExitCode;
 
@@ -63,7 +64,7 @@ fn run_stream(stream: Stream, seed: u64, count: u64, progress: bool) -> Result<C
 fn replay(case: Case) -> Result<(), String> {
     let (call, outcome) = compare_case(&Library, case).map_err(|it| it.to_string())?;
     println!("{call}{outcome}");
-    for (index, row) in outcome.rows().enumerate() {
+    for (index, row) in outcome.rows().enumerate().take(SHOWN_ROWS) {
         println!("answer {index}: {row}");
     }
     println!("compared 1 calls, 0 differences");

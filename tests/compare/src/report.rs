@@ -1,14 +1,14 @@
 //! How a call and a difference are shown: short enough to read, and enough to replay.
 
-use crate::call::mark;
-use crate::{Call, Case, Difference, Outcome};
+use crate::call::{byte_mark, mark};
+use crate::{Call, Case, Difference, File, Outcome};
 use reference::{Trailer, TwoGridTrailer};
 use std::fmt::{self, Display, Formatter};
 
-/// An image is shown up to so many bytes, of its end.
+/// An image is shown up to so many bytes, of its end; a file too, of its beginning.
 const SHOWN_BYTES: usize = 400;
-/// A list is shown up to so many of its rows.
-const SHOWN_ROWS: usize = 30;
+/// A list and an outcome are shown up to so many of their rows, of differing answers half as many.
+pub const SHOWN_ROWS: usize = 30;
 
 impl Display for Call {
     fn fmt(&self, to: &mut Formatter) -> fmt::Result {
@@ -26,6 +26,7 @@ impl Display for Call {
             }
             Call::ReadNotation { axis, notation } => writeln!(to, "read {axis:?} {notation:?}"),
             Call::WriteNotation { axis, nd } => writeln!(to, "write {axis:?} {nd}"),
+            Call::HeightsFromVdatum(file) => show_file(to, file),
         }
     }
 }
@@ -48,8 +49,27 @@ fn show_image(to: &mut Formatter, image: &[u8]) -> fmt::Result {
     let shown = &image[first..];
     let (nodes, trailer) = shown.split_at(shown.len().saturating_sub(trailer_bytes));
     for line in nodes.rchunks(line_bytes).rev().chain([trailer]) {
-        let hex: Vec<String> = line.iter().map(|byte| format!("{byte:02x}")).collect();
-        writeln!(to, "  {}", hex.join(" "))?;
+        writeln!(to, "  {}", hexadecimal(line))?;
+    }
+    Ok(())
+}
+
+fn hexadecimal(bytes: &[u8]) -> String {
+    let words: Vec<String> = bytes.iter().map(|byte| format!("{byte:02x}")).collect();
+    words.join(" ")
+}
+
+/// The header's four floats, its counts, and the nodes, four to a line.
+fn show_file(to: &mut Formatter, file: &File) -> fmt::Result {
+    let (length, buffer) = (file.bytes.len(), file.buffer_length);
+    writeln!(to, "file of {length} bytes, buffer of {buffer} bytes")?;
+    let (shown, rest) = file.bytes.split_at(length.min(SHOWN_BYTES));
+    let (header, nodes) = shown.split_at(shown.len().min(40));
+    for line in header.chunks(8).chain(nodes.chunks(16)) {
+        writeln!(to, "  {}", hexadecimal(line))?;
+    }
+    if !rest.is_empty() {
+        writeln!(to, "its last {} bytes are not shown", rest.len())?;
     }
     Ok(())
 }
@@ -67,8 +87,8 @@ fn show_rows(to: &mut Formatter, name: &str, numbers: &[i64], width: usize) -> f
 
 impl Outcome {
     /// What stands in the memory lent for values, five numbers to a row, and a word for each
-    /// number that the call left alone.
-    pub fn rows(&self) -> impl Iterator<Item = String> {
+    /// number that the call left alone; then what stands in the buffer for nodes, a node to a row.
+    pub fn rows(&self) -> impl Iterator<Item = String> + '_ {
         let words = self.written.iter().enumerate().map(|(index, number)| {
             if *number == mark(index) {
                 "unchanged".to_string()
@@ -77,9 +97,22 @@ impl Outcome {
             }
         });
         let words: Vec<String> = words.collect();
-        (0..words.len().div_ceil(5)).map(move |row| {
+        let values = (0..words.len().div_ceil(5)).map(move |row| {
             let end = words.len().min(5 * row + 5);
             words[5 * row..end].join(" ")
+        });
+        values.chain(self.node_rows())
+    }
+
+    fn node_rows(&self) -> impl Iterator<Item = String> + '_ {
+        let nodes = self.nodes.chunks(4).enumerate();
+        nodes.map(|(index, node)| {
+            let marked = |(byte, found): (usize, &u8)| *found == byte_mark(4 * index + byte);
+            if node.iter().enumerate().all(marked) {
+                "unchanged".to_string()
+            } else {
+                hexadecimal(node)
+            }
         })
     }
 }
@@ -109,12 +142,11 @@ impl Display for Difference {
         write!(to, "{}", self.call)?;
         writeln!(to, "expected {}", self.expected)?;
         writeln!(to, "found    {}", self.found)?;
-        let (expected, found) = (self.expected.rows(), self.found.rows());
-        for (index, (expected, found)) in expected.zip(found).enumerate() {
-            if expected != found {
-                writeln!(to, "answer {index}: expected {expected}")?;
-                writeln!(to, "answer {index}: found    {found}")?;
-            }
+        let rows = self.expected.rows().zip(self.found.rows()).enumerate();
+        let differing = rows.filter(|(_, (expected, found))| expected != found);
+        for (index, (expected, found)) in differing.take(SHOWN_ROWS / 2) {
+            writeln!(to, "answer {index}: expected {expected}")?;
+            writeln!(to, "answer {index}: found    {found}")?;
         }
         let Case {
             stream,

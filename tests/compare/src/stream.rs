@@ -11,22 +11,21 @@ pub enum Stream {
     EditionOne,
     /// Images of edition 2.
     EditionTwo,
+    /// VDatum files.
+    Files,
 }
 
 impl Stream {
-    pub const ALL: [Stream; 2] = [Stream::EditionOne, Stream::EditionTwo];
+    pub const ALL: [Stream; 3] = [Stream::EditionOne, Stream::EditionTwo, Stream::Files];
+    /// The streams over images.
+    pub const EDITIONS: [Stream; 2] = [Stream::EditionOne, Stream::EditionTwo];
 
     /// The stream over images of an edition.
     pub fn of_edition(edition: u32) -> Option<Stream> {
-        Stream::ALL
-            .into_iter()
-            .find(|stream| stream.edition() == edition)
-    }
-
-    fn edition(self) -> u32 {
-        match self {
-            Stream::EditionOne => 1,
-            Stream::EditionTwo => 2,
+        match edition {
+            1 => Some(Stream::EditionOne),
+            2 => Some(Stream::EditionTwo),
+            _ => None,
         }
     }
 
@@ -35,6 +34,7 @@ impl Stream {
         match self {
             Stream::EditionOne => cases::call(seed, index),
             Stream::EditionTwo => cases::two_grids::call(seed, index),
+            Stream::Files => cases::files::call(seed, index),
         }
     }
 
@@ -42,7 +42,7 @@ impl Stream {
     /// image that says edition 2.
     pub fn counts(self, call: &Call) -> bool {
         match self {
-            Stream::EditionOne => true,
+            Stream::EditionOne | Stream::Files => true,
             Stream::EditionTwo => {
                 let trailer = call.image().and_then(Trailer::read);
                 trailer.is_some_and(|it| it.edition == 2)
@@ -52,17 +52,21 @@ impl Stream {
 
     /// The numbers that a full run must meet among the calls that it counts: edition 1 knows no
     /// 15, and edition 2's stream has no notations.
-    pub fn numbers(self) -> impl Iterator<Item = Number> {
-        let never = match self {
-            Stream::EditionOne => 15,
-            Stream::EditionTwo => 13,
-        };
-        (1..=15).filter(move |number| *number != never)
+    pub fn numbers(self) -> Vec<Number> {
+        match self {
+            Stream::EditionOne => (0..=14).collect(),
+            Stream::EditionTwo => (0..=12).chain(14..=15).collect(),
+            Stream::Files => vec![0, 16, 17],
+        }
     }
 }
 
 impl fmt::Display for Stream {
     fn fmt(&self, to: &mut fmt::Formatter) -> fmt::Result {
-        write!(to, "edition {}", self.edition())
+        to.write_str(match self {
+            Stream::EditionOne => "edition 1",
+            Stream::EditionTwo => "edition 2",
+            Stream::Files => "files",
+        })
     }
 }

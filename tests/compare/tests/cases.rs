@@ -2,6 +2,7 @@
 //! the way out can be refused, exact halves, points on the bounds, limits of the geometry.
 
 mod edition_2;
+mod files;
 mod made_up;
 
 use compare::cases::values::NEAR;
@@ -13,7 +14,7 @@ use std::collections::BTreeSet;
 const STREAM: Stream = Stream::EditionOne;
 
 #[test]
-fn every_number_and_count_occurs() {
+fn every_number_count_and_cause_occurs() {
     for stream in Stream::ALL {
         let mut coverage = Coverage::of(stream);
         for call in calls(stream) {
@@ -24,9 +25,15 @@ fn every_number_and_count_occurs() {
 }
 
 #[test]
-fn the_streams_numbers_are_1_to_15_together() {
+fn a_run_that_met_nothing_misses_every_number_count_and_cause() {
+    let missing = Stream::ALL.map(|stream| Coverage::of(stream).missing().len());
+    assert_eq!(missing, [15 + 5, 15 + 5, 3 + 36]);
+}
+
+#[test]
+fn the_streams_numbers_are_0_to_17_together() {
     let numbers: BTreeSet<Number> = Stream::ALL.into_iter().flat_map(Stream::numbers).collect();
-    assert_eq!(numbers, (1..=15).collect());
+    assert_eq!(numbers, (0..=17).collect());
 }
 
 #[test]
@@ -68,7 +75,7 @@ fn end_of_the_way(image: &Image, given: Point) -> Option<(Number, usize)> {
 
 #[test]
 fn the_way_out_meets_an_unfit_cell_and_a_bound_at_every_step() {
-    for stream in Stream::ALL {
+    for stream in Stream::EDITIONS {
         let mut ends = BTreeSet::new();
         for_each_point(stream, Way::Out, |image, point| {
             ends.extend(end_of_the_way(image, point));

@@ -45,6 +45,7 @@ impl Digest {
                 notation.letter.into(),
             ]),
             Call::WriteNotation { axis, nd } => self.add_numbers(&[longitude(axis), *nd]),
+            Call::HeightsFromVdatum(file) => panic!("{} bytes of a file", file.bytes.len()),
         }
     }
 

@@ -3,17 +3,18 @@
 
 mod slipped;
 
-use compare::{compare, Difference, Stream};
-use slipped::{Slip, Slipped, TwoGridSlip};
+use compare::{compare, Cause, Difference, Stream};
+use slipped::{FileSlip, Slip, Slipped, TwoGridSlip};
 
 const SEED: u64 = 20_260_101;
 const FEW_THOUSAND: u64 = 4_000;
 
 /// The first difference of a converter with the slip, over images of edition 1 or, where only
-/// edition 2 shows it, over these.
+/// edition 2 or files show it, over these.
 fn caught(slip: Slip) -> Box<Difference> {
     let stream = match slip {
         Slip::TwoGrids(_) => Stream::EditionTwo,
+        Slip::Files(_) => Stream::Files,
         _ => Stream::EditionOne,
     };
     caught_over(stream, slip)
@@ -26,18 +27,27 @@ fn caught_over(stream: Stream, slip: Slip) -> Box<Difference> {
 
 #[test]
 fn a_converter_without_a_slip_has_no_difference() {
-    for stream in Stream::ALL {
-        assert!(compare(&Slipped(Slip::None), stream, SEED, 20_000, |_| {}).is_ok());
+    for (stream, slip) in [
+        (Stream::EditionOne, Slip::None),
+        (Stream::EditionTwo, Slip::None),
+        (Stream::Files, FileSlip::None.into()),
+    ] {
+        assert!(compare(&Slipped(slip), stream, SEED, 20_000, |_| {}).is_ok());
     }
 }
 
 #[test]
 fn a_difference_is_told_with_a_case_to_replay() {
-    for (stream, edition) in [(Stream::EditionOne, 1), (Stream::EditionTwo, 2)] {
-        let difference = caught_over(stream, Slip::HeightAtTheFix);
+    let north_first = Slip::Files(FileSlip::NorthFirst);
+    for (stream, slip, word) in [
+        (Stream::EditionOne, Slip::HeightAtTheFix, "--edition 1"),
+        (Stream::EditionTwo, Slip::HeightAtTheFix, "--edition 2"),
+        (Stream::Files, north_first, "--files"),
+    ] {
+        let difference = caught_over(stream, slip);
         let words = difference.to_string();
         let case = format!("{SEED}:{}", difference.case.index);
-        let command = format!("compare --edition {edition} --replay {case}");
+        let command = format!("compare {word} --replay {case}");
         assert!(words.contains(&command), "{words}");
         assert!(words.lines().count() < 80, "{words}");
     }
@@ -65,6 +75,14 @@ fn slips_of_either_edition_are_caught_over_edition_2() {
         Slip::SumCutTo64Bits,
     ] {
         caught_over(Stream::EditionTwo, slip);
+    }
+}
+
+/// Each cause of 16 and 17 alone is enough for the comparison to see that it is not asked.
+#[test]
+fn every_cause_that_is_not_asked_is_caught() {
+    for cause in Cause::all() {
+        caught(FileSlip::NotAsked(cause).into());
     }
 }
 
@@ -122,4 +140,34 @@ slips_are_caught! {
     heights_by_the_correction_limit_are_caught: TwoGridSlip::HeightsByTheCorrectionLimit;
     height_slope_by_the_correction_spacings_is_caught: TwoGridSlip::SlopeByTheCorrectionSpacings;
     slope_of_corrections_before_heights_is_caught: TwoGridSlip::SlopeBeforeHeights;
+    file_rounding_toward_zero_is_caught: FileSlip::RoundedTowardZero;
+    file_half_away_from_zero_is_caught: FileSlip::HalfAwayFromZero;
+    file_half_to_even_is_caught: FileSlip::HalfToEven;
+    file_half_downward_is_caught: FileSlip::HalfDownward;
+    file_rounding_down_is_caught: FileSlip::RoundedDown;
+    file_sign_lost_is_caught: FileSlip::SignLost;
+    file_subnormal_refused_is_caught: FileSlip::SubnormalRefused;
+    file_shift_cut_to_6_bits_is_caught: FileSlip::ShiftCutTo6Bits;
+    file_no_number_as_zero_is_caught: FileSlip::NoNumberIsZero;
+    file_infinity_as_zero_is_caught: FileSlip::InfinityIsZero;
+    file_f64_arithmetic_is_caught: FileSlip::DoubleArithmetic;
+    file_f32_arithmetic_is_caught: FileSlip::SingleArithmetic;
+    file_little_endian_header_is_caught: FileSlip::LittleEndianHeader;
+    file_little_endian_nodes_are_caught: FileSlip::LittleEndianNodes;
+    file_big_endian_buffer_is_caught: FileSlip::BigEndianBuffer;
+    file_rows_and_columns_swapped_are_caught: FileSlip::RowsAndColumnsSwapped;
+    file_spacings_swapped_are_caught: FileSlip::SpacingsSwapped;
+    file_south_and_west_swapped_are_caught: FileSlip::SouthAndWestSwapped;
+    file_northern_row_first_is_caught: FileSlip::NorthFirst;
+    file_nodes_written_before_all_are_asked_are_caught: FileSlip::NodesWrittenAtOnce;
+    file_geometry_written_before_17_is_caught: FileSlip::GeometryWrittenBefore17;
+    file_geometry_cleared_before_16_is_caught: FileSlip::GeometryCleared;
+    write_to_the_file_is_caught: FileSlip::FileWritten;
+    longer_file_taken_is_caught: FileSlip::LongerFileTaken;
+    longer_buffer_taken_is_caught: FileSlip::LongerBufferTaken;
+    heights_cut_to_the_limit_are_caught: FileSlip::HeightsCutToTheLimit;
+    height_limit_itself_refused_is_caught: FileSlip::HeightLimitRefused;
+    height_limit_before_rounding_is_caught: FileSlip::LimitBeforeRounding;
+    last_node_of_a_file_not_asked_is_caught: FileSlip::LastNodeNotAsked;
+    number_17_before_16_is_caught: FileSlip::SeventeenFirst;
 }

@@ -1,10 +1,11 @@
-//! The independent reference: document 01, with note 1 of document 02, said once more, over
+//! The independent reference: document 01, with notes 1 and 2 of document 02, said once more, over
 //! whole-number fractions.
 //!
 //! It shares no code and no constants with `crates/`. It is meant to be read beside the papers,
 //! not to be fast. Every public function answers either its values or the papers' number.
 
 mod check;
+mod float;
 mod fraction;
 mod geometry;
 mod grid;
@@ -15,9 +16,11 @@ mod notation;
 mod numbers;
 mod place;
 mod trailer;
+mod vdatum;
 mod ways;
 
 pub use check::grid_check;
+pub use float::{is_negative, nearest, Exact, Width, DOUBLE, SINGLE};
 pub use fraction::Fraction;
 pub use geometry::Geometry;
 pub use grid::Grid;
@@ -26,11 +29,14 @@ pub use lists::{convert_list, list_back, list_out};
 pub use notation::{read_notation, write_notation, Axis, Notation};
 pub use place::{Place, Point};
 pub use trailer::{Trailer, TwoGridTrailer};
+pub use vdatum::{
+    convert_file, heights_from_vdatum, node_bits, FileHeader, Heights, Nearest, METRE,
+};
 pub use ways::{
     fix_questions, way_back, way_out, Answer, Fix, BACK_HEIGHT_LIMIT, OUT_HEIGHT_LIMIT,
 };
 
-/// The number of a question whose answer is no, 1 to 15.
+/// The number of a question whose answer is no, 1 to 17.
 pub type Number = i64;
 
 /// "An nd is 10^-9 degree": a whole degree in nd.

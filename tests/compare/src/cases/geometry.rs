@@ -12,6 +12,11 @@ pub const LINES_LIMIT: i64 = 4_096;
 /// Any fit geometry.
 pub fn any_geometry(random: &mut Random) -> Geometry {
     let (rows, columns) = size(random);
+    geometry_with(random, rows, columns)
+}
+
+/// Any fit geometry with so many rows and columns.
+pub fn geometry_with(random: &mut Random, rows: i64, columns: i64) -> Geometry {
     let latitude_spacing = any_spacing(random, rows, LATITUDE_LIMIT);
     let longitude_spacing = any_spacing(random, columns, LONGITUDE_LIMIT);
     placed(

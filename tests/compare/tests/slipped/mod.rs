@@ -1,5 +1,7 @@
 //! A converter that behaves as the reference but for one planted slip.
 
+mod files;
+mod floats;
 mod heights;
 mod images;
 mod slip;
@@ -7,7 +9,7 @@ mod ways;
 
 use compare::{Converter, Reference, Way};
 use reference::{convert_list, Axis, Notation, Number};
-pub use slip::{Slip, TwoGridSlip};
+pub use slip::{FileSlip, Slip, TwoGridSlip};
 
 pub struct Slipped(pub Slip);
 
@@ -103,5 +105,17 @@ impl Converter for Slipped {
             *notation = [minutes / 60, minutes % 60, seconds, notation[3]];
         }
         number
+    }
+
+    fn heights_from_vdatum(
+        &self,
+        file: &mut [u8],
+        nodes: &mut [u8],
+        geometry: &mut [i64; 6],
+    ) -> Number {
+        match self.0 {
+            Slip::Files(slip) => slip.convert(file, nodes, geometry),
+            _ => Reference.heights_from_vdatum(file, nodes, geometry),
+        }
     }
 }

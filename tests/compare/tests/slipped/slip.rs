@@ -1,5 +1,6 @@
 //! The slips that can be planted.
 
+use compare::Cause;
 use reference::Number;
 
 /// The slips: first those of document 01's "Slips seen in the bought code", in its order.
@@ -52,6 +53,8 @@ pub enum Slip {
     NegativeZeroRefused,
     /// In edition 2.
     TwoGrids(TwoGridSlip),
+    /// In the conversion of a VDatum file.
+    Files(FileSlip),
 }
 
 /// The slips that only an image of edition 2 shows.
@@ -98,5 +101,76 @@ pub enum TwoGridSlip {
 impl From<TwoGridSlip> for Slip {
     fn from(slip: TwoGridSlip) -> Slip {
         Slip::TwoGrids(slip)
+    }
+}
+
+/// The slips of the conversion of a VDatum file.
+#[derive(Clone, Copy, PartialEq, Eq)]
+pub enum FileSlip {
+    /// None: the conversion is then another way to say the reference's.
+    None,
+    /// One half is added, and the sum cut toward zero.
+    RoundedTowardZero,
+    /// A half goes away from zero.
+    HalfAwayFromZero,
+    /// A half goes to the even number.
+    HalfToEven,
+    /// A half goes down.
+    HalfDownward,
+    /// No half is added.
+    RoundedDown,
+    /// The sign is not read.
+    SignLost,
+    /// An exponent without a bit set is refused.
+    SubnormalRefused,
+    /// A shift is taken by the last six bits of its count, as processors do: floats that are very
+    /// small become large.
+    ShiftCutTo6Bits,
+    /// What is not a number is 0.
+    NoNumberIsZero,
+    /// Infinities are 0.
+    InfinityIsZero,
+    /// The angle is multiplied as an f64.
+    DoubleArithmetic,
+    /// The height is multiplied as an f32.
+    SingleArithmetic,
+    LittleEndianHeader,
+    LittleEndianNodes,
+    /// The buffer gets big-endian heights.
+    BigEndianBuffer,
+    RowsAndColumnsSwapped,
+    SpacingsSwapped,
+    SouthAndWestSwapped,
+    /// The northern row comes first in the buffer.
+    NorthFirst,
+    /// Nodes are written until one is refused.
+    NodesWrittenAtOnce,
+    /// The geometry is written before 17.
+    GeometryWrittenBefore17,
+    /// The geometry is cleared before 16.
+    GeometryCleared,
+    /// One byte of the file is written.
+    FileWritten,
+    /// A byte behind the last node is let pass.
+    LongerFileTaken,
+    /// A buffer with room for one byte more is taken.
+    LongerBufferTaken,
+    /// Heights are not refused by their limit, but cut to it.
+    HeightsCutToTheLimit,
+    /// The height's limit is itself refused.
+    HeightLimitRefused,
+    /// The limit is asked of the exact height, not of the rounded one.
+    LimitBeforeRounding,
+    /// The last node is not asked.
+    LastNodeNotAsked,
+    /// 17 comes before 16.
+    SeventeenFirst,
+    /// A file that is refused for this alone gets 0.
+    NotAsked(Cause),
+}
+
+impl From<FileSlip> for Slip {
+    fn from(slip: FileSlip) -> Slip {
+        Slip::Files(slip)
     }
 }
