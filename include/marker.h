@@ -161,10 +161,10 @@ enum {
  * reserved below it, and what is used of the red zone, the 128 bytes below the stack pointer that no handler may touch. It does not
  * grow with the image or the list. */
 enum {
-    MARKER_CODE_BYTES = 12996,
+    MARKER_CODE_BYTES = 13125,
     MARKER_GRID_CHECK_STACK = 240,
-    MARKER_LIST_OUT_STACK = 1400,
-    MARKER_LIST_BACK_STACK = 1400,
+    MARKER_LIST_OUT_STACK = 1416,
+    MARKER_LIST_BACK_STACK = 1416,
     MARKER_READ_NOTATION_STACK = 8,
     MARKER_WRITE_NOTATION_STACK = 8,
     MARKER_HEIGHTS_FROM_VDATUM_STACK = 200

@@ -1,5 +1,5 @@
-/* The figures of document 01, starred and unstarred, each by name, put to the built library; and figures of our own for images of
- * edition 2 and for VDatum files, which document 02 has none for. Prints `ok NAME` or `FAILED NAME`. */
+/* The figures of document 01, starred and unstarred, each by name, put to the built library; the points of docs/ROUNDING.md; and figures
+ * of our own for images of edition 2 and for VDatum files, which document 02 has none for. Prints `ok NAME` or `FAILED NAME`. */
 #include <inttypes.h>
 #include <stdio.h>
 #include <string.h>
@@ -121,6 +121,21 @@ static void figures_of_g(void) {
     tell("out (50, 500) gives 10", refuses(marker_list_out, &g, (int64_t[]){50, 500, 0}, 10));
     tell("out (2050, 500) gives 8", refuses(marker_list_out, &g, (int64_t[]){2050, 500, 0}, 8));
     tell("G passes with 4 0 0 0 0 5", passes(&g, (int64_t[]){4, 0, 0, 0, 0, 5}));
+}
+
+/* The points of docs/ROUNDING.md, one for each of the six cases of document 02's note 3, but for those among 01's figures. */
+static void figures_of_rounding(void) {
+    struct image image;
+    grid(&image, (int64_t[]){100, 104, 108}, -50, 0);
+    tell("case 1: back (100, 0), 100.4 gives 100",
+         gives(marker_list_back, &image, (int64_t[]){100, 0, 0}, (int64_t[]){200, -50, 430000, 1}));
+    tell("case 3: back (200, 0), 100.8 gives 101",
+         gives(marker_list_back, &image, (int64_t[]){200, 0, 0}, (int64_t[]){301, -50, 430000, 1}));
+    tell("case 4: back (100, 300), -50 stays",
+         gives(marker_list_back, &image, (int64_t[]){100, 300, 0}, (int64_t[]){200, 250, 430002, 1}));
+    grid(&image, (int64_t[]){100, 104, 108}, -100, -1);
+    tell("case 4: (0, 300), -100.3 gives -100",
+         gives(marker_list_back, &image, (int64_t[]){0, 300, 0}, (int64_t[]){100, 200, 430002, 1}));
 }
 
 static void figures_of_variants(void) {
@@ -278,6 +293,7 @@ static void figures_of_notation(void) {
 
 int main(void) {
     figures_of_g();
+    figures_of_rounding();
     figures_of_variants();
     figures_of_notation();
     figures_of_edition_2();

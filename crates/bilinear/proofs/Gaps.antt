@@ -1,6 +1,6 @@
--- Corners by how far they lie above an integer: the weighted sum and the value lie above it by those of these natural numbers.
+-- Corners by how far they lie above an integer: their sum lies above that of the integer by the sum of these natural numbers.
 use mathlib.Core.Path.{_≡_, ap}
-use Prim.Native.Nat.{ℕ, _+_, _-_, _*_, _≤_, _<_}
+use Prim.Native.Nat.{ℕ, _+_, _-_, _*_, _≤_}
 use native.Mathlib.Omega.{arith}
 use lib.IntN.{ℤ, pos, natAbs, _+ℤ_, _*ℤ_}
 use mir.Syntax.{w64}
@@ -9,14 +9,12 @@ use mir.Facts.{toZ-ofZ}
 use Rattle.integers.specs.Distance.{abs-is}
 use Rattle.integers.specs.Machine.{zarith}
 use Rattle.integers.specs.Difference.{up, down, order, Difference, var, lit, _⊕_, _⊖_, _⊗_}
-use Rattle.integers.specs.Rounding.{Round, roundHalfUp, round-of, round-is, round-bound}
 use Rattle.rules.specs.declared.Square.{Square}
 use Rattle.rules.specs.Units.{correctionLimit}
 use Rattle.rules.specs.Limits.{CornersWithin}
-use Rattle.rules.specs.Bilinear.{weighted, bilinear}
+use Rattle.rules.specs.Bilinear.{weighted}
 use Rattle.rules.proofs.Weights.{weights}
-use Rattle.bilinear.specs.Mean.{InCell, Around, Below, cornerMix, mean}
-use Rattle.bilinear.proofs.Mixes.{cell-area, corner-mix-most}
+use Rattle.bilinear.specs.Mean.{InCell, Around, Below, cornerMix}
 
 -- Corner values by how far they lie above b.
 pub record Gaps (b : ℤ) (c : Square) (sw se nw ne : ℕ) : Type 0 where
@@ -72,30 +70,13 @@ sum-above x y z t b k l m n a u e v K ex ey ez et h =
     (up b * K + (a * (e * k + v * l) + u * (e * m + v * n))) (down b * K)
     (omega (arith, ap (λ (i : ℕ). up b * i) h, ap (λ (i : ℕ). down b * i) h))
 
--- What lies b times K above s is rounded to b above what s is.
-round-above : (n b : ℤ) (s r K : ℕ) → 0 < K → up n + down b * K ≡ up b * K + s + down n → pos r ≡ roundHalfUp (pos s) K
-    → roundHalfUp n K ≡ b +ℤ pos r
-round-above n b s r K h e k =
-    let d = var b ⊕ lit r in
-    let g : Round K (pos s) (pos r) = rw k (round-of (pos s) K h) in
-    let f : Round K n (b +ℤ pos r) = omega (arith, ap (λ (x : ℕ). K * x) (d .is)) in
-    round-is h f
-
--- The value lies above b by the rounded mean of the gaps.
-module _ {c : Square} {u v P Q : ℕ} (cell : InCell u v P Q) where
-  pub value-above : {b : ℤ} {sw se nw ne r : ℕ} → Gaps b c sw se nw ne → pos r ≡ mean sw se nw ne u v P Q
-      → bilinear c u v P Q ≡ b +ℤ pos r
-  unfolding bilinear weighted
-  value-above {b} {sw} {se} {nw} {ne} {r} g e =
-      let sum =
-      sum-above (c .southwest) (c .southeast) (c .northwest) (c .northeast) b sw se nw ne (P - u) u (Q - v) v (P * Q)
-      (g .southwest) (g .southeast) (g .northwest) (g .northeast) (weights (cell .u-most) (cell .v-most))
-      in
-      round-above (weighted c u v P Q) b (cornerMix sw se nw ne u v P Q) r (P * Q) (cell-area cell) sum e
-
--- That mean is no larger than the largest gap.
-pub mean-most : {sw se nw ne u v P Q r : ℕ} → InCell u v P Q → Below (2 * correctionLimit) sw se nw ne
-    → pos r ≡ mean sw se nw ne u v P Q → r ≤ 2 * correctionLimit
-mean-most {sw} {se} {nw} {ne} {u} {v} {P} {Q} cell b e =
-    let sum = cornerMix sw se nw ne u v P Q in
-    rw (← e) at (round-bound (pos sum) (P * Q) (2 * correctionLimit) (cell-area cell) (corner-mix-most cell b))
+-- So the sum of the corners is b times the area above that of the gaps.
+pub weighted-above : {c : Square} {u v P Q : ℕ} {b : ℤ} {sw se nw ne : ℕ} → InCell u v P Q → Gaps b c sw se nw ne
+    → weighted c u v P Q ≡ b *ℤ pos (P * Q) +ℤ pos (cornerMix sw se nw ne u v P Q)
+unfolding weighted
+weighted-above {c} {u} {v} {P} {Q} {b} {sw} {se} {nw} {ne} cell g =
+    let sum =
+    sum-above (c .southwest) (c .southeast) (c .northwest) (c .northeast) b sw se nw ne (P - u) u (Q - v) v (P * Q)
+    (g .southwest) (g .southeast) (g .northwest) (g .northeast) (weights (cell .u-most) (cell .v-most))
+    in
+    omega (arith, order, sum, var b ⊗ lit (P * Q) ⊕ lit (cornerMix sw se nw ne u v P Q))

@@ -4,11 +4,9 @@ use Prim.Native.Nat.{ℕ, _+_, _-_, _*_, _/_, _%_, _^_, _≤_, _<_, max}
 use native.Mathlib.Nat.{div-add-mod', div-eq-of-lt-le, mod-lt, div-le-self, div-le-of-le-mul}
 use native.Mathlib.Nat.{mul-pos, mul-le-mul, mul-le-mul-left, mul-le-mul-right, sub-add-cancel, le-of-lt, le-max-left, le-max-right, max-le}
 use native.Mathlib.Omega.{arith}
-use lib.IntN.{pos}
-use Rattle.integers.specs.Rounding.{roundHalfUp}
 use Rattle.rules.specs.Units.{spacingMost, correctionLimit}
 use Rattle.bilinear.specs.declared.Quotient.{Quotient}
-use Rattle.bilinear.specs.Mean.{Spacing, InCell, mix, cornerMix, mean, quotientOf, Mixable, Below, RowMixes, Divided}
+use Rattle.bilinear.specs.Mean.{Spacing, InCell, mix, cornerMix, quotientOf, cornerQuotient, Mixable, Below, RowMixes}
 
 -- At most the larger value.
 pub mix-le : {a b w whole : ℕ} (M : ℕ) → w ≤ whole → a ≤ M → b ≤ M → mix a b w whole ≤ whole * M
@@ -47,25 +45,23 @@ module _ {sw se nw ne u v P Q : ℕ} (cell : InCell u v P Q) (b : Below (2 * cor
   pub corner-mix-most : cornerMix sw se nw ne u v P Q ≤ P * Q * (2 * correctionLimit)
   corner-mix-most = omega (arith, mix-le (Q * (2 * correctionLimit)) (cell .u-most) (row-mixes .south-most) (row-mixes .north-most))
 
-module _ {s n u P Q : ℕ} (r : RowMixes s n u P Q) where
-  -- What a division of two rows gives.
-  pub divided-most : Divided (quotientOf s n u P Q) (P * Q)
-  divided-most =
-      record {
-        area-most = area-most (r .latitude-spacing) (r .longitude-spacing);
-        whole-most =
-            div-le-of-le-mul (P * Q) (omega (arith, mix-le (Q * (2 * correctionLimit)) (r .u-most) (r .south-most) (r .north-most)));
-        rest-most = mod-lt _ (area-least (r .latitude-spacing) (r .longitude-spacing));
-      }
+  pub whole-most : cornerQuotient sw se nw ne u v P Q .whole ≤ 2 * correctionLimit
+  whole-most = div-le-of-le-mul (P * Q) corner-mix-most
 
-  -- Numbers that make up the mix as a quotient and a remainder do are these.
+-- Numbers that make up n as a quotient and a remainder do are these.
+pub record Division (n d whole rest : ℕ) : Type 0 where
+  pub whole-is : n / d ≡ whole
+  pub rest-is : n % d ≡ rest
+
+pub division : {n d whole rest : ℕ} → n ≡ whole * d + rest → rest < d → Division n d whole rest
+division {n} {d} {whole} {rest} e l =
+    let q : n / d ≡ whole = div-eq-of-lt-le d (omega arith) (omega arith) in
+    record { whole-is = q; rest-is = omega (arith, div-add-mod' n d, ap (λ (x : ℕ). x * d) q) }
+
+module _ {s n u P Q : ℕ} (r : RowMixes s n u P Q) where
   pub quotient-is : {whole rest : ℕ} → mix s n u P ≡ whole * (P * Q) + rest → rest < P * Q
       → _≡_ {A = Quotient} (record { whole = whole; rest = rest }) (quotientOf s n u P Q)
-  quotient-is {whole} {rest} e l =
-      let m = mix s n u P in
-      let q : m / (P * Q) ≡ whole = div-eq-of-lt-le (P * Q) (omega arith) (omega arith) in
-      let p : m % (P * Q) ≡ rest = omega (arith, div-add-mod' m (P * Q), ap (λ (x : ℕ). x * (P * Q)) q) in
-      cc
+  quotient-is e l = let d = division e l in rw (d .whole-is, d .rest-is)
 
   -- The rows divided by Q, and what that leaves.
   pub south-row : s / Q ≤ 2 * correctionLimit
@@ -79,11 +75,6 @@ module _ {s n u P Q : ℕ} (r : RowMixes s n u P Q) where
 
   pub north-left : n % Q < Q
   north-left = mod-lt n (r .longitude-spacing .least)
-
--- The rounded mean, from the mixes of both rows and what the division of their mix gives.
-pub mean-is : (sw se nw ne u v P Q : ℕ) {s n r : ℕ} {q : Quotient} → s ≡ mix sw se v Q → n ≡ mix nw ne v Q → q ≡ quotientOf s n u P Q
-    → pos r ≡ roundHalfUp (pos (q .whole * (P * Q) + q .rest)) (P * Q) → pos r ≡ mean sw se nw ne u v P Q
-mean-is sw se nw ne u v P Q south north d e = rw (d, south, north, div-add-mod') at e
 
 -- The division in two steps: t is the mix of the rows divided by Q, left that of what this leaves of them.
 pub record InSteps (s n u P Q t left : ℕ) : Type 0 where

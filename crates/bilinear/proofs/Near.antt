@@ -2,7 +2,7 @@
 use mathlib.Core.Bool.{true, _&&_}
 use mathlib.Core.Path.{_≡_}
 use Prim.Native.Nat.{ℕ, _+_, _*_, _≤_}
-use native.Mathlib.Nat.{mul-le-mul-left, mul-le-mul-right, max-le, div-le-of-le-mul, mod-lt}
+use native.Mathlib.Nat.{mul-le-mul-left, mul-le-mul-right, max-le}
 use native.Mathlib.Omega.{arith}
 use lib.Dec.{leb}
 use lib.IntN.{ℤ, pos, natAbs, _+ℤ_, _-ℤ_}
@@ -12,8 +12,8 @@ use Rattle.integers.specs.Distance.{abs-is}
 use Rattle.integers.specs.Difference.{order, var, lit, _⊕_, _⊖_}
 use Rattle.rules.specs.declared.Square.{Square}
 use Rattle.rules.specs.Units.{within, correctionLimit}
-use Rattle.bilinear.specs.Mean.{InCell, mix, quotientOf, raise, nearLimit, nearArea, near, Mixable, Below, Divided}
-use Rattle.bilinear.proofs.Mixes.{mix-le, area-most, area-least}
+use Rattle.bilinear.specs.Mean.{InCell, mix, raise, nearLimit, nearArea, near, Mixable, Below}
+use Rattle.bilinear.proofs.Mixes.{mix-le}
 
 -- What the test says.
 pub record NearTo (c : Square) (area : ℕ) : Type 0 where
@@ -66,14 +66,4 @@ module _ {se nw ne u v P Q : ℕ} (b : Below (raise + nearLimit) raise se nw ne)
       record {
         part = cell .u-most;
         fits = omega (arith, mul-le-mul-left P (max-le south-most north-most), mul-le-mul-right (raise + nearLimit) small);
-      }
-
-  pub near-divided : Divided (quotientOf south-mix north-mix u P Q) (P * Q)
-  near-divided =
-      record {
-        area-most = area-most (cell .latitude-spacing) (cell .longitude-spacing);
-        whole-most =
-            div-le-of-le-mul (P * Q)
-            (omega (arith, mix-le (Q * (raise + nearLimit)) (cell .u-most) south-most north-most));
-        rest-most = mod-lt _ (area-least (cell .latitude-spacing) (cell .longitude-spacing));
       }

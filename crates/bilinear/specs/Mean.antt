@@ -1,8 +1,7 @@
--- What the weighting function asks of its numbers, and the weighted mean over natural numbers that its steps compute.
+-- What the weighting function asks of its numbers, and the weighted mean of natural numbers, as quotient and remainder of their sum.
 use Prim.Native.Nat.{ℕ, _+_, _-_, _*_, _/_, _%_, _^_, _≤_, _<_, max}
 use mathlib.Core.Bool.{Bool, _&&_}
-use lib.IntN.{ℤ, pos, natAbs, _-ℤ_}
-use Rattle.integers.specs.Rounding.{roundHalfUp}
+use lib.IntN.{ℤ, natAbs, _-ℤ_}
 use Rattle.rules.specs.declared.Square.{Square}
 use Rattle.rules.specs.Units.{between, within, spacingMost, correctionLimit}
 use Rattle.bilinear.specs.declared.Quotient.{Quotient}
@@ -50,13 +49,13 @@ mix a b w whole = (whole - w) * a + w * b
 abbrev pub cornerMix : (sw se nw ne u v P Q : ℕ) → ℕ
 cornerMix sw se nw ne u v P Q = mix (mix sw se v Q) (mix nw ne v Q) u P
 
--- The rounded mean of those values.
-abbrev pub mean : (sw se nw ne u v P Q : ℕ) → ℤ
-mean sw se nw ne u v P Q = roundHalfUp (pos (cornerMix sw se nw ne u v P Q)) (P * Q)
-
 -- The mix of two rows, divided by P × Q.
 abbrev pub quotientOf : (s n u P Q : ℕ) → Quotient
 quotientOf s n u P Q = record { whole = mix s n u P / (P * Q); rest = mix s n u P % (P * Q) }
+
+-- The mix of four natural corner values, divided by P × Q.
+abbrev pub cornerQuotient : (sw se nw ne u v P Q : ℕ) → Quotient
+cornerQuotient sw se nw ne u v P Q = quotientOf (mix sw se v Q) (mix nw ne v Q) u P Q
 
 -- What keeps a mix in 64 bits.
 pub record Mixable (a b w whole : ℕ) : Type 0 where
@@ -78,8 +77,6 @@ pub record RowMixes (s n u P Q : ℕ) : Type 0 where
   pub latitude-spacing : Spacing P
   pub longitude-spacing : Spacing Q
 
--- What a division of such mixes by the area of a cell gives.
-pub record Divided (q : Quotient) (area : ℕ) : Type 0 where
-  pub area-most : area ≤ spacingMost * spacingMost
-  pub whole-most : q .whole ≤ 2 * correctionLimit
-  pub rest-most : q .rest < area
+-- How large the quotient of a sum that is rounded can be: a base, what is taken from it, and the quotient of the raised corners.
+abbrev pub quotientMost : ℕ
+quotientMost = 4 * correctionLimit

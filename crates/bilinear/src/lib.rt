@@ -4,14 +4,14 @@ use numbers::three_within;
 use rules::CORRECTION_LIMIT;
 ghost use mathlib.Core.Bool.{true};
 ghost use mathlib.Core.Path.{_≡_};
-ghost use Prim.Native.Nat.{_+_, _*_, _≤_};
-ghost use lib.IntN.{pos, natAbs, _+ℤ_, _-ℤ_};
-ghost use Rattle.integers.specs.Rounding.{roundHalfUp};
+ghost use Prim.Native.Nat.{_+_, _*_, _≤_, _<_};
+ghost use lib.IntN.{pos, natAbs, _+ℤ_, _-ℤ_, _*ℤ_};
 ghost use Rattle.rules.specs.Units.{correctionLimit};
 ghost use Rattle.rules.specs.Limits.{CornersWithin};
 ghost use Rattle.rules.specs.Bilinear.{squareOf, bilinear};
-ghost use Rattle.bilinear.specs.Mean.{InCell, Around, mix, mean, quotientOf, Mixable, RowMixes, Below, Divided};
-ghost use Rattle.bilinear.specs.Mean.{raise, nearLimit, nearArea, near};
+ghost use Rattle.rules.specs.SixCases.{sixCases, roundedByCases};
+ghost use Rattle.bilinear.specs.Mean.{InCell, Around, mix, quotientOf, cornerQuotient, Mixable, RowMixes, Below};
+ghost use Rattle.bilinear.specs.Mean.{raise, nearLimit, nearArea, near, quotientMost};
 
 // Corners are near where the others lie less than 2^15 from the south-west one and the cell's area is at most 2^48: raised by 2^15 less
 // that corner they are natural numbers below 2^16, and the mix of such numbers, below 2^16 areas, fits 64 bits.
@@ -76,11 +76,12 @@ pub fn weigh_near(
     let se = raised(corners[0][1], sw, RAISE);
     let nw = raised(corners[1][0], sw, RAISE);
     let ne = raised(corners[1][1], sw, RAISE);
-    let mean = near_mean(se, nw, ne, u, v, latitude_spacing, longitude_spacing);
-    lowered(mean, sw, RAISE)
+    let quotient = near_quotient(se, nw, ne, u, v, latitude_spacing, longitude_spacing);
+    let whole = lowered(quotient.whole, sw, RAISE);
+    rounded_sum(whole, quotient.rest, latitude_spacing * longitude_spacing)
 }
 
-// The value of any corners: raised by the largest size of a corner they are natural numbers, whose mean takes three divisions. Those of a
+// The value of any corners: raised by the largest size of a corner they are natural numbers, whose sum takes three divisions. Those of a
 // real grid are so raised all large, and the branch by which the compiler takes a shorter division of small numbers goes one way: a
 // processor that guesses it wrong waits for the corners' bytes.
 fn weigh_any(
@@ -97,8 +98,61 @@ fn weigh_any(
     let se = raised(corners[0][1], 0, CORRECTION_LIMIT);
     let nw = raised(corners[1][0], 0, CORRECTION_LIMIT);
     let ne = raised(corners[1][1], 0, CORRECTION_LIMIT);
-    let mean = rounded_mean(sw, se, nw, ne, u, v, latitude_spacing, longitude_spacing);
-    lowered(mean, 0, CORRECTION_LIMIT)
+    let quotient = any_quotient(sw, se, nw, ne, u, v, latitude_spacing, longitude_spacing);
+    let whole = lowered(quotient.whole, 0, CORRECTION_LIMIT);
+    rounded_sum(whole, quotient.rest, latitude_spacing * longitude_spacing)
+}
+
+// The rounding of document 02's note 3, in its six cases: of a sum by its sign, and by quotient and remainder of its absolute value by the
+// area, P × Q (crates/rules/specs/SixCases.antt; docs/ROUNDING.md). Twice the remainder is less than the area where the remainder is less
+// than what is missing to the area. So compared, the compiler finds that a sum and its negative take one test, and makes no branch on the
+// sign.
+fn rounded(negative: bool, quotient: u64, remainder: u64, area: u64) -> i64
+    requires { ⌜ (quotient ≤ quotientMost) × (remainder < area) ⌝ }
+    ensures { λ r. ⌜ r ≡ sixCases negative quotient remainder area ⌝ }
+{
+    let value = quotient as i64;
+    let missing = area - remainder;
+    if !negative {
+        // Case 1: not below zero, below half.
+        if remainder < missing {
+            return value;
+        }
+        // Case 2: not below zero, exactly half.
+        if remainder == missing {
+            return value + 1;
+        }
+        // Case 3: not below zero, above half.
+        return value + 1;
+    }
+    // Case 6: below zero, above half.
+    if remainder > missing {
+        return -(value + 1);
+    }
+    // Case 5: below zero, exactly half.
+    if remainder == missing {
+        return -value;
+    }
+    // Case 4: below zero, below half.
+    -value
+}
+
+// A sum, rounded, from its quotient by the area, rounded down, and what that leaves. Below zero its absolute value leaves what is missing
+// to the area, and has one area less, unless nothing is left.
+fn rounded_sum(whole: i64, rest: u64, area: u64) -> i64
+    requires { ⌜ (natAbs whole ≤ quotientMost) × (rest < area) ⌝ }
+    ensures { λ r. ⌜ r ≡ roundedByCases (whole *ℤ pos area +ℤ pos rest) area ⌝ }
+{
+    if rest == 0 {
+        if whole >= 0 {
+            return rounded(false, whole as u64, 0, area);
+        }
+        return rounded(true, (-whole) as u64, 0, area);
+    }
+    if whole >= 0 {
+        return rounded(false, whole as u64, rest, area);
+    }
+    rounded(true, (-whole - 1) as u64, area - rest, area)
 }
 
 // A corner, raised by so much less a base from which it lies no further.
@@ -117,8 +171,8 @@ fn lowered(n: u64, base: i64, by: u64) -> i64
     base - by as i64 + n as i64
 }
 
-// The weighted mean of near corners, raised so that the south-west one is RAISE, rounded.
-fn near_mean(
+// The sum of near corners, raised so that the south-west one is RAISE, divided by the area.
+fn near_quotient(
     se: u64,
     nw: u64,
     ne: u64,
@@ -126,22 +180,23 @@ fn near_mean(
     v: u64,
     latitude_spacing: u64,
     longitude_spacing: u64,
-) -> u64
+) -> Quotient
     requires { ⌜ Below (raise + nearLimit) raise se nw ne × InCell u v «latitude_spacing» «longitude_spacing»
         × («latitude_spacing» * «longitude_spacing» ≤ nearArea) ⌝ }
-    ensures { λ r. ⌜ pos r ≡ mean raise se nw ne u v «latitude_spacing» «longitude_spacing» ⌝ }
+    ensures { λ r. ⌜ r ≡ cornerQuotient raise se nw ne u v «latitude_spacing» «longitude_spacing» ⌝ }
 {
     let south = mix(RAISE, se, v, longitude_spacing);
     let north = mix(nw, ne, v, longitude_spacing);
-    let m = mix(south, north, u, latitude_spacing);
+    let sum = mix(south, north, u, latitude_spacing);
     let area = latitude_spacing * longitude_spacing;
-    let whole = m / area;
-    let rest = m % area;
-    rounded(Quotient { whole, rest }, area)
+    Quotient {
+        whole: sum / area,
+        rest: sum % area,
+    }
 }
 
-// The weighted mean of four natural corner values, rounded: the two rows are mixed, then the mix of both divided by the cell's area.
-fn rounded_mean(
+// The sum of four natural corner values, divided by the area: the two rows are mixed, then the mix of both divided in steps.
+fn any_quotient(
     sw: u64,
     se: u64,
     nw: u64,
@@ -150,14 +205,13 @@ fn rounded_mean(
     v: u64,
     latitude_spacing: u64,
     longitude_spacing: u64,
-) -> u64
+) -> Quotient
     requires { ⌜ Below (2 * correctionLimit) sw se nw ne × InCell u v «latitude_spacing» «longitude_spacing» ⌝ }
-    ensures { λ r. ⌜ pos r ≡ mean sw se nw ne u v «latitude_spacing» «longitude_spacing» ⌝ }
+    ensures { λ r. ⌜ r ≡ cornerQuotient sw se nw ne u v «latitude_spacing» «longitude_spacing» ⌝ }
 {
     let south = mix(sw, se, v, longitude_spacing);
     let north = mix(nw, ne, v, longitude_spacing);
-    let quotient = divided_in_steps(south, north, u, latitude_spacing, longitude_spacing);
-    rounded(quotient, latitude_spacing * longitude_spacing)
+    divided_in_steps(south, north, u, latitude_spacing, longitude_spacing)
 }
 
 // a and b weighted by the parts whole - w and w.
@@ -201,17 +255,5 @@ fn divided_in_steps(
     Quotient {
         whole: whole + 1,
         rest: rest - area,
-    }
-}
-
-// A quotient by an area, rounded to the nearest, halves up.
-fn rounded(q: Quotient, area: u64) -> u64
-    requires { ⌜ Divided q area ⌝ }
-    ensures { λ r. ⌜ pos r ≡ roundHalfUp (pos (q .whole * area + q .rest)) area ⌝ }
-{
-    if 2 * q.rest < area {
-        q.whole
-    } else {
-        q.whole + 1
     }
 }

@@ -37,13 +37,15 @@ pub fn list_back(image: &[u8], fixes: &[i64], answers: &mut [i64]) -> i64
     convert_list(Way::Back, image, fixes, answers)
 }
 
-// Questions 1 to 6, then 14, then each fix in turn.
+// Questions 1 to 6, then 14, then each fix in turn. The image is opened as a part of itself, from its start to its end: lent on as it is,
+// the compiler copies where it begins and its length at once, which a processor that has only just stored both, one by one, waits for.
 fn convert_list(way: Way, image: &[u8], fixes: &[i64], answers: &mut [i64]) -> i64
     ensures number { λ r. ⌜ r ≡ statusOf (convertList way (now (image .entry)) (now (fixes .entry)) (now (answers .entry))) ⌝ }
     ensures answers { λ _. ⌜ now (answers .exit)
         ≡ after (convertList way (now (image .entry)) (now (fixes .entry)) (now (answers .entry))) (now (answers .entry)) ⌝ }
 {
-    match open(image) {
+    let size = image.len();
+    match open(&image[..size]) {
         Opened::Separate(s) => {
             if !lengths_pass(fixes, answers) {
                 return refusal_number(Refusal::ListLengths);

@@ -4,13 +4,14 @@ use mathlib.Core.Bool.{Bool, true, false, not}
 use Prim.Native.Nat.{ℕ, suc, _+_, _^_, _≤_, _<_, max}
 use native.Mathlib.Omega.{arith}
 use lib.Dec.{T, nleb→lt}
-use lib.IntN.{ℤ, pos, negsuc, natAbs, _+ℤ_, _-ℤ_}
+use lib.IntN.{ℤ, pos, negsuc, negℤ, natAbs, _+ℤ_, _-ℤ_}
 use lib.Signed.{mag, nonNeg, leZ, ltZ, leZ-yes, ltZ-yes, ltZ-no}
 use mir.Syntax.{Width, w64}
 use mir.Val.{SFits, toZ, ofZ, hbits}
 use mir.Facts.{toZ-ofZ, toZ-pos}
 use borrow.Author.Tests.{ltb-true, ltb-false, leb-true, leb-false, lt-ltb, le-ltb, le-leb, lt-leb, eqb-true, eqb-false, eq-eqb, ne-eqb}
-use Rattle.integers.specs.Difference.{up, down, order, ≤ℤ-parts, <ℤ-parts, parts-≤ℤ, parts-<ℤ, Difference, var, _⊕_, _⊖_}
+use Rattle.integers.specs.Difference.{up, down, order, ≤ℤ-parts, <ℤ-parts, parts-≤ℤ, parts-<ℤ}
+use Rattle.integers.specs.Difference.{Difference, var, lit, negated, _⊕_, _⊖_}
 use Rattle.integers.specs.Distance.{size}
 
 -- A range for `omega` to find by itself: with no case to split, it does not exclude the number 2 ^ hbits, one above the range
@@ -106,6 +107,14 @@ read-result w z h = read-back (record { sfits = h }) (var z)
 -- an unsigned number in the lower half, cast to a signed type
 abbrev pub read-cast : (w : Width) (n : ℕ) → n < 2 ^ hbits w → Difference (toZ w n)
 read-cast w n h = record { hi = n; lo = 0; is = subst (λ (y : ℤ). up y + 0 ≡ n + down y) (sym (toZ-pos w h)) refl }
+
+-- the negative of what is a natural number in the lower half
+module _ (w : Width) {z : ℤ} {n : ℕ} (e : z ≡ pos n) (h : n < 2 ^ hbits w) where
+  pub minus-fits : SFits w (pos 0 -ℤ z)
+  minus-fits = omega (zarith, lit 0 ⊖ var z)
+
+  pub minus-back : toZ w (ofZ w (pos 0 -ℤ z)) ≡ negℤ (pos n)
+  minus-back = omega (zarith, read-back minus-fits (lit 0 ⊖ var z), negated (lit n))
 
 -- A test of two signed numbers that fit, as the code makes it on their bits, on the numbers themselves.
 pub plain-le : {w : Width} {x y : ℤ} → SFits w x → SFits w y → {b : Bool} → leZ (toZ w (ofZ w x)) (toZ w (ofZ w y)) ≡ b → leZ x y ≡ b

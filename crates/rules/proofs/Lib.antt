@@ -9,6 +9,8 @@ pub mod Limits
 pub mod Largest
 pub mod Slopes
 pub mod Weights
+pub mod SixCases
+pub mod WorkedRounding
 pub mod Evaluations
 pub mod Corners
 pub mod Lent

@@ -64,7 +64,7 @@ abbrev correctionsOver : List ℕ → Point → Outcome Correction
 correctionsOver b p = andThen (opening b) (λ l. correctionLookup (gridOf b l) p)
 
 -- Longitude correction −100 − column.
-abbrev slanted : List ℕ
+abbrev pub slanted : List ℕ
 slanted = variant (λ row column. pos (100 + 4 * row)) (λ row column. negℤ (pos (100 + column)))
 
 -- Latitude corrections 0, 1000, 2000 by row, longitude corrections 0.

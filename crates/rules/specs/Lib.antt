@@ -7,6 +7,7 @@
 -- ../src/lib.rt, its u64 and u8 fields read as ℕ and its i64 fields as ℤ; `way.Out` is case Out of enum Way.
 --     f x y, r .x, λ x. t      f of x and y; field x of r; the function of x that gives t
 --     let x = a in t           t with x for a; `where` does the same from below
+--     data T where …           T has these cases, and no other
 --     record { x = a; … }      the record with these fields; in a `record … where` of claims, all of its lines hold
 --     A → B, (x : A) → C       from A to B; and as a claim: C for every x of A. {A : Type 0}: for every type A
 --     A × B, (x : A) × C       both A and B; an x of A for which C holds
@@ -35,6 +36,7 @@ pub mod Image
 pub mod Questions
 pub mod Limits
 pub mod Bilinear
+pub mod SixCases
 pub mod Lookup
 pub mod Ways
 pub mod Check

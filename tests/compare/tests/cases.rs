@@ -7,7 +7,7 @@ mod made_up;
 
 use compare::cases::values::NEAR;
 use compare::{cases, cell_of, points_on_the_way, Call, Coverage, Reference, Stream, Way};
-use made_up::{calls, for_each_point, images, is_half, SEED};
+use made_up::{calls, for_each_point, images, rounding_case, SEED};
 use reference::{Axis, Image, Number, Point, Trailer};
 use std::collections::BTreeSet;
 
@@ -45,19 +45,19 @@ fn another_seed_gives_other_calls_and_the_same_seed_the_same() {
     }
 }
 
+/// Document 02's note 3: each of its six cases, and those of them that an odd area has.
 #[test]
-fn exact_halves_of_both_signs_occur_for_each_value() {
-    let mut halves = BTreeSet::new();
+fn every_case_of_the_rounding_occurs_for_each_value() {
+    let mut cases = BTreeSet::new();
     for_each_point(STREAM, Way::Back, |image, point| {
         let corrections = image.exact_corrections(point).into_iter().flatten();
         let values = corrections.chain(image.exact_height(point));
         for (value, exact) in values.enumerate() {
-            if is_half(exact) {
-                halves.insert((value, exact.parts().0.signum()));
-            }
+            let area = exact.parts().1;
+            cases.insert((value, rounding_case(exact), area % 2));
         }
     });
-    assert_eq!(halves.len(), 6, "{halves:?}");
+    assert_eq!(cases.len(), 3 * (6 + 4), "{cases:?}");
 }
 
 /// The number that ends the way out, and at which pk: question 9 for the cell of pk, question 10

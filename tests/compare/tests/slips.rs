@@ -120,6 +120,9 @@ slips_are_caught! {
     write_to_the_image_is_caught: Slip::ImageWritten;
     write_to_the_fixes_is_caught: Slip::FixWritten;
     sum_of_corner_times_weight_cut_to_64_bits_is_caught: Slip::SumCutTo64Bits;
+    half_below_zero_away_from_zero_is_caught: Slip::HalfBelowZeroAway;
+    above_half_below_zero_not_rounded_is_caught: Slip::AboveHalfBelowZeroKept;
+    half_of_an_odd_area_rounded_down_is_caught: Slip::HalfOfTheAreaRoundedDown;
     degrees_cut_to_64_bits_are_caught: Slip::TotalCutTo64Bits;
     zero_with_south_or_west_refused_is_caught: Slip::NegativeZeroRefused;
     kind_not_asked_is_caught: TwoGridSlip::KindNotAsked;

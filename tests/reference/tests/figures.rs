@@ -3,6 +3,7 @@
 
 mod answers;
 mod common;
+mod rounding;
 
 use answers::{answer, convert};
 use common::{fix_at, g_node, grid_g, image_of, point_at, G_TRAILER};
@@ -55,12 +56,17 @@ fn starred_back_125_0_has_latitude_correction_101() {
     assert_eq!(answered, answer(125 + 101, -50, 430_000, 1));
 }
 
-/// G "with longitude correction −100 − column": the one looked up on the southern bound.
-fn sloping_longitude_correction(longitude: i64) -> i128 {
-    let image = image_of(&G_TRAILER, |row, column| {
+/// G "with longitude correction −100 − column".
+fn sloping_g() -> Vec<u8> {
+    image_of(&G_TRAILER, |row, column| {
         let [latitude, _, height] = g_node(row, column);
         [latitude, -100 - column, height]
-    });
+    })
+}
+
+/// The longitude correction of G's sloping variant, looked up on the southern bound.
+fn sloping_longitude_correction(longitude: i64) -> i128 {
+    let image = sloping_g();
     let opened = open_image(&image).unwrap();
     let [_, correction] = opened.corrections(point_at(0, longitude)).unwrap();
     correction

@@ -1,6 +1,6 @@
--- `bilinear::weigh_any` meets its contract: the value is the mean of the raised corners, lowered again.
-use mathlib.Core.Path.{sym, _∙_}
+-- `bilinear::weigh_any` meets its contract: the value is the rounded sum of the raised corners, lowered again.
 use Prim.Native.Nat.{_*_, _≤_}
+use native.Mathlib.Nat.{mod-lt}
 use native.Mathlib.Omega.{arith}
 use lib.IntN.{ℤ, pos, natAbs, _-ℤ_}
 use mir.Syntax.{w64}
@@ -10,7 +10,9 @@ use Rattle.rules.specs.declared.Square.{Square}
 use Rattle.rules.specs.Units.{correctionLimit}
 use Rattle.rules.specs.Bilinear.{squareOf}
 use Rattle.bilinear.specs.Mean.{Around, Below}
-use Rattle.bilinear.proofs.Gaps.{Gaps, read-corner, around-zero, gaps-most, mean-most, value-above}
+use Rattle.bilinear.proofs.Mixes.{area-most, cell-area, whole-most}
+use Rattle.bilinear.proofs.Gaps.{Gaps, read-corner, around-zero, gaps-most}
+use Rattle.bilinear.proofs.Divided.{lowered-most, value-is}
 use borrow.Author.Needs.{needs}
 use Rattle.bilinear.proofs.weigh_any.Statement.{statement}
 use Rattle.bilinear.proofs.weigh_any.Tie as tie
@@ -72,17 +74,37 @@ below : (c : tie.After-raised4)
     → Below (2 * correctionLimit) (sw-at c .raised .result) (se-at c .raised2 .result) (nw-at c .raised3 .result) (c .raised4 .result)
 below c = gaps-most lowest (omega arith) (start c .pre .0) (gaps c)
 
-rounded-mean-requires : tie.Need-rounded-mean-requires
-rounded-mean-requires c κs = (below c, start c .pre .1)
+any-quotient-requires : tie.Need-any-quotient-requires
+any-quotient-requires c κs = (below c, start c .pre .1)
+
+-- The quotient of the raised corners.
+quotient-most : (c : tie.After-any-quotient) → c .any-quotient .result .whole ≤ 2 * correctionLimit
+quotient-most c = let g = c .before in rw (c .any-quotient .ensures) (whole-most (start g .pre .1) (below g))
 
 lowered-requires : tie.Need-lowered-requires
-lowered-requires c κs = let g = c .before in (omega arith, omega arith, mean-most (start g .pre .1) (below g) (c .rounded-mean .ensures))
+lowered-requires c κs = (omega arith, omega arith, quotient-most c)
+
+mul-rounded-sum : tie.Need-mul-rounded-sum
+mul-rounded-sum c =
+    let cell = start (c .before .before) .pre .1 in
+    omega (arith, area-most (cell .latitude-spacing) (cell .longitude-spacing))
+
+rounded-sum-requires : tie.Need-rounded-sum-requires
+rounded-sum-requires c κs =
+    let q = c .before in
+    let lowered-is = told w64 (c .lowered .ok) (c .lowered .ensures) in (
+      lowered-most (pos 0) _ correctionLimit _ (omega arith) (omega arith) (quotient-most q) lowered-is,
+      rw (q .any-quotient .ensures) (mod-lt _ (cell-area (start (q .before) .pre .1))),
+    )
 
 returns : tie.Need-returns
 returns c =
-    let m = c .before in
-    let g = m .before in
-    told w64 (c .lowered .ok) (c .lowered .ensures) ∙ sym (value-above (start g .pre .1) (gaps g) (m .rounded-mean .ensures))
+    let l = c .before in
+    let q = l .before in
+    let g = q .before in
+    told w64 (c .rounded-sum .ok)
+    (value-is (start g .pre .1) (gaps g) (q .any-quotient .ensures) (told w64 (l .lowered .ok) (l .lowered .ensures))
+    (c .rounded-sum .ensures))
 
 pub weigh-any-spec : {M : Type 1} → statement M
 weigh-any-spec =
@@ -100,6 +122,8 @@ weigh-any-spec =
     (λ c. search needs)
     (λ c. search needs)
     raised-requires-4
-    rounded-mean-requires
+    any-quotient-requires
     lowered-requires
+    mul-rounded-sum
+    rounded-sum-requires
     returns)

@@ -1,6 +1,8 @@
--- `bilinear::weigh_near` meets its contract: the value lies above the south-west corner less 2^15 by the mean of the raised corners.
-use mathlib.Core.Path.{_≡_, sym, ap, _∙_}
+-- `bilinear::weigh_near` meets its contract: the value is the rounded sum of the raised corners, lowered again by 2^15 less the south-west
+-- corner.
+use mathlib.Core.Path.{_≡_}
 use Prim.Native.Nat.{ℕ, _+_, _*_, _≤_}
+use native.Mathlib.Nat.{mod-lt}
 use native.Mathlib.Omega.{arith}
 use lib.IntN.{ℤ, pos, natAbs, _+ℤ_, _-ℤ_}
 use mir.Syntax.{w64}
@@ -10,7 +12,9 @@ use Rattle.rules.specs.declared.Square.{Square}
 use Rattle.rules.specs.Units.{correctionLimit}
 use Rattle.rules.specs.Bilinear.{squareOf}
 use Rattle.bilinear.specs.Mean.{raise, nearLimit, Around, Below}
-use Rattle.bilinear.proofs.Gaps.{Gaps, read-corner, mean-most, value-above}
+use Rattle.bilinear.proofs.Mixes.{area-most, cell-area, whole-most}
+use Rattle.bilinear.proofs.Gaps.{Gaps, read-corner}
+use Rattle.bilinear.proofs.Divided.{lowered-most, value-is}
 use Rattle.bilinear.proofs.Near.{NearTo, near-to, raised-most, raised-back, below-most}
 use borrow.Author.Needs.{needs}
 use Rattle.bilinear.proofs.weigh_near.Statement.{statement}
@@ -86,28 +90,46 @@ below c =
       northeast = raised-most (q .southwest) (q .northeast) _ (tested s .northeast) (g .northeast);
     }
 
-near-mean-requires : tie.Need-near-mean-requires
-near-mean-requires c κs = let s = start c in (below c, s .pre .1, tested s .area-most)
+near-quotient-requires : tie.Need-near-quotient-requires
+near-quotient-requires c κs = let s = start c in (below c, s .pre .1, tested s .area-most)
+
+-- The south-west corner, read back, and the quotient of the raised corners.
+southwest-read : (s : tie.Start) → toZ w64 (ofZ w64 (square s .southwest)) ≡ square s .southwest
+southwest-read s = read-corner (square s .southwest) (s .pre .0 .southwest)
+
+quotient-most : (c : tie.After-near-quotient) → c .near-quotient .result .whole ≤ 2 * correctionLimit
+quotient-most c = let r = c .before in rw (c .near-quotient .ensures) (whole-most (start r .pre .1) (below-most (below r)))
 
 lowered-requires : tie.Need-lowered-requires
 lowered-requires c κs =
-    let r = c .before in
-    let s = start r in
-    let q = square s in (
-      rw (read-corner (q .southwest) (s .pre .0 .southwest)) (s .pre .0 .southwest),
-      omega arith,
-      mean-most (s .pre .1) (below-most (below r)) (c .near-mean .ensures),
+    let s = start (c .before) in
+    (rw (southwest-read s) (s .pre .0 .southwest), omega arith, quotient-most c)
+
+-- The quotient of the corners.
+lowered-is : (c : tie.After-lowered) → let s = start (c .before .before) in
+    toZ w64 (ofZ w64 (c .lowered .result)) ≡ (square s .southwest -ℤ pos raise) +ℤ pos (c .before .near-quotient .result .whole)
+lowered-is c = told w64 (c .lowered .ok) (rw (southwest-read (start (c .before .before))) at (c .lowered .ensures))
+
+mul-rounded-sum : tie.Need-mul-rounded-sum
+mul-rounded-sum c =
+    let cell = start (c .before .before) .pre .1 in
+    omega (arith, area-most (cell .latitude-spacing) (cell .longitude-spacing))
+
+rounded-sum-requires : tie.Need-rounded-sum-requires
+rounded-sum-requires c κs =
+    let q = c .before in
+    let s = start (q .before) in (
+      lowered-most (square s .southwest) _ raise _ (s .pre .0 .southwest) (omega arith) (quotient-most q) (lowered-is c),
+      rw (q .near-quotient .ensures) (mod-lt _ (cell-area (s .pre .1))),
     )
 
 returns : tie.Need-returns
 returns c =
-    let m = c .before in
-    let r = m .before in
-    let s = start r in
-    let q = square s in
-    told w64 (c .lowered .ok) (c .lowered .ensures)
-    ∙ ap (λ (z : ℤ). (z -ℤ pos raise) +ℤ pos (m .near-mean .result)) (read-corner (q .southwest) (s .pre .0 .southwest))
-    ∙ sym (value-above (s .pre .1) (gaps r) (m .near-mean .ensures))
+    let l = c .before in
+    let q = l .before in
+    let r = q .before in
+    told w64 (c .rounded-sum .ok)
+    (value-is (start r .pre .1) (gaps r) (q .near-quotient .ensures) (lowered-is l) (c .rounded-sum .ensures))
 
 pub weigh-near-spec : {M : Type 1} → statement M
 weigh-near-spec =
@@ -124,6 +146,8 @@ weigh-near-spec =
     (λ c. search needs)
     (λ c. search needs)
     raised-requires-3
-    near-mean-requires
+    near-quotient-requires
     lowered-requires
+    mul-rounded-sum
+    rounded-sum-requires
     returns)

@@ -2,10 +2,13 @@
 use borrow.Author.Needs.{needs}
 use borrow.Author.Tests.{not-true, not-false}
 use mathlib.Core.Bool.{Bool}
+use mathlib.Core.List.{List}
 use mathlib.Core.Path.{_≡_, sym, ap, _∙_}
-use native.Mathlib.Omega.{arith}
+use Prim.Native.Nat.{ℕ}
+use native.Mathlib.Nat.{le-refl}
 use denote.Ref.{now}
-use lib.ListN.{length}
+use lib.ListN.{length, take}
+use lib.Seq.{take-all}
 use mir.Syntax.{w64}
 use Rattle.integers.specs.Machine.{told}
 use Rattle.rules.specs.Answers.{values, number, numberOf}
@@ -18,14 +21,24 @@ use Rattle.fixes.proofs.convert_list.Tie as tie
 
 -- the entry, from where the image is opened
 abbrev start : tie.After-open → tie.Start
-start c = c .before .before
+start c = c .before .before .before
+
+-- a list from its start to its end is the list
+whole : (b : List ℕ) → take (length b) b ≡ b
+whole b = take-all (length b) b (le-refl (length b))
+
+slice-aggregate-open : tie.Need-slice-aggregate-open
+slice-aggregate-open c = ap length (sym (whole (now (c .before .before .args .image))))
 
 -- questions 1 to 6 and 14, as the code found them
+answered : (c : tie.After-open) → let b = now (start c .args .image) in openedOf b (c .«open» .result) ≡ opening b
+answered c = rw (whole (now (start c .args .image))) at (c .«open» .ensures)
+
 found : (c : tie.After-s) → let b = now (start (c .before .before) .args .image) in opening b ≡ values (layoutFor b (c .s .given .0 .0))
-found c = sym (c .before .before .«open» .ensures) ∙ ap (openedOf _) (c .s .given .1)
+found c = sym (answered (c .before .before)) ∙ ap (openedOf _) (c .s .given .1)
 
 refused : (c : tie.After-r) → opening (now (start (c .before .before) .args .image)) ≡ number (numberOf (c .r .given .0 .0))
-refused c = sym (c .before .before .«open» .ensures) ∙ ap (openedOf _) (c .r .given .1)
+refused c = sym (answered (c .before .before)) ∙ ap (openedOf _) (c .r .given .1)
 
 lengths : (c : tie.After-lengths-pass) (b : Bool) → c .lengths-pass .result ≡ b →
     let s = start (c .before .before .before .before .before) .args in question14 (length (now (s .fixes))) (length (now (s .answers))) ≡ b
@@ -70,6 +83,7 @@ pub convert-list-spec : {M : Type 1} → statement M
 convert-list-spec =
     tie.close
     (tie.spec
+    slice-aggregate-open
     (λ c κs. tt)
     (λ c. search needs)
     (λ c κs. tt)

@@ -1,7 +1,7 @@
 //! The grids of edition 2's images: how they lie to each other, and what their heights are.
 
 use super::STREAM;
-use crate::made_up::{for_each_point, furthest_apart, images, is_half, limits_of_checked};
+use crate::made_up::{for_each_point, furthest_apart, images, limits_of_checked, rounding_case};
 use compare::cases::values::NEAR;
 use compare::Way;
 use reference::{open_image, Geometry, Grid, Image};
@@ -67,18 +67,18 @@ fn height_grids_lie_to_correction_grids_in_every_relation() {
 }
 
 #[test]
-fn exact_halves_of_both_signs_occur_for_heights_on_a_grid_of_their_own() {
-    let mut halves = BTreeSet::new();
+fn every_case_of_the_rounding_occurs_for_heights_on_a_grid_of_their_own() {
+    let mut cases = BTreeSet::new();
     for_each_point(STREAM, Way::Back, |image, point| {
         let is_own = image.correction_geometry() != image.height_geometry();
         match image.exact_height(point) {
-            Ok(exact) if is_own && is_half(exact) => {
-                halves.insert(exact.parts().0.signum());
+            Ok(exact) if is_own => {
+                cases.insert((rounding_case(exact), exact.parts().1 % 2));
             }
             _ => {}
         }
     });
-    assert_eq!(halves.len(), 2, "{halves:?}");
+    assert_eq!(cases.len(), 6 + 4, "{cases:?}");
 }
 
 /// Both sides of the limits within which the library weighs with one division, by the height

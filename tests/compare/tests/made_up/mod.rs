@@ -2,6 +2,7 @@
 
 use compare::{Call, Stream, Way};
 use reference::{grid_check, open_image, Fraction, Geometry, Image, Point, DEGREE};
+use std::cmp::Ordering;
 use std::collections::BTreeSet;
 
 pub const SEED: u64 = 7;
@@ -36,10 +37,11 @@ pub fn for_each_point(stream: Stream, wanted: Way, mut action: impl FnMut(&Image
     }
 }
 
-/// Does an exact half decide on the value?
-pub fn is_half(exact: Fraction) -> bool {
-    let (numerator, denominator) = exact.parts();
-    2 * (numerator.rem_euclid(denominator)) == denominator
+/// The case of document 02's note 3: whether the sum is negative, and how twice the remainder of its
+/// absolute value compares with P × Q.
+pub fn rounding_case(exact: Fraction) -> (bool, Ordering) {
+    let (sum, area) = exact.parts();
+    (sum < 0, (2 * (sum.abs() % area)).cmp(&area))
 }
 
 /// The largest distance of a cell's corners, south-west first, from the south-west one.

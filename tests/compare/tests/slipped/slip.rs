@@ -47,6 +47,12 @@ pub enum Slip {
     FixWritten,
     /// The sum of corner times weight is cut to 64 bits.
     SumCutTo64Bits,
+    /// An exact half below zero goes away from zero.
+    HalfBelowZeroAway,
+    /// More than half below zero is not rounded.
+    AboveHalfBelowZeroKept,
+    /// The remainder is compared with half of P × Q, rounded down.
+    HalfOfTheAreaRoundedDown,
     /// The degrees' total is cut to 64 bits.
     TotalCutTo64Bits,
     /// Zero with S or W is refused.

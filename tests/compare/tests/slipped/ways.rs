@@ -116,8 +116,25 @@ impl Slipped {
         match self.0 {
             Slip::RoundingTowardZero => above / twice,
             Slip::SumCutTo64Bits => i128::from(above as i64).div_euclid(twice),
+            Slip::HalfBelowZeroAway => {
+                numerator.signum() * ((2 * numerator.abs() + denominator) / twice)
+            }
+            Slip::AboveHalfBelowZeroKept if numerator < 0 => numerator / denominator,
+            Slip::HalfOfTheAreaRoundedDown => {
+                rounded_by_half(numerator, denominator, denominator / 2)
+            }
             _ => above.div_euclid(twice),
         }
+    }
+}
+
+/// Document 02's six cases, with so much taken as half of the area.
+fn rounded_by_half(sum: i128, area: i128, half: i128) -> i128 {
+    let (quotient, remainder) = (sum.abs() / area, sum.abs() % area);
+    if sum < 0 {
+        -(quotient + i128::from(remainder > half))
+    } else {
+        quotient + i128::from(remainder >= half)
     }
 }
 
