@@ -4,10 +4,11 @@
  *
  * Exits with 0 for a pass, 1 for a refusal, 2 if the file cannot be read.
  */
-#include <inttypes.h>
+#include <stdint.h>
 #include <stdio.h>
 #include <stdlib.h>
 
+#include "findings.h"
 #include "marker.h"
 #include "read_file.h"
 #include "refusal.h"
@@ -30,10 +31,6 @@ int main(int count, char **words) {
         print_refusal(number);
         return 1;
     }
-    printf("passed");
-    for (int i = 0; i < MARKER_FINDINGS_LENGTH; i++) {
-        printf(" %" PRId64, findings[i]);
-    }
-    printf("\n");
+    print_findings(findings);
     return 0;
 }

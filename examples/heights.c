@@ -10,8 +10,10 @@
 #include <stdlib.h>
 
 #include "marker.h"
+#include "node_room.h"
 #include "read_file.h"
 #include "refusal.h"
+#include "write_file.h"
 
 /* An angle in degrees with all its nine decimals. Only the size is divided, since -0.5 degrees has the whole part 0. */
 static void print_degrees(int64_t nd) {
@@ -29,16 +31,6 @@ static void print_geometry(const int64_t geometry[MARKER_GEOMETRY_LENGTH]) {
     printf(" and ");
     print_degrees(geometry[MARKER_LONGITUDE_SPACING]);
     printf(", %" PRId64 " rows of %" PRId64 " columns: %" PRId64 " heights\n", rows, columns, rows * columns);
-}
-
-/* Whether all bytes were written. */
-static bool write_file(const char *name, const uint8_t *bytes, size_t size) {
-    FILE *file = fopen(name, "wb");
-    if (file == NULL) {
-        return false;
-    }
-    bool written = fwrite(bytes, 1, size, file) == size;
-    return fclose(file) == 0 && written;
 }
 
 /* Converts the bytes of a .gtx file into the room lent, writes the nodes to the file of that name, and gives the status to exit with. */
@@ -68,9 +60,7 @@ int main(int count, char **words) {
         fprintf(stderr, "heights: cannot read %s\n", words[1]);
         return 2;
     }
-    /* The call wants room for 4 * rows * columns bytes. A node has 4 bytes in the file too, so a file of the right length has just so many
-     * after its header, and a file of any other length is refused whatever the room. */
-    size_t room = size < MARKER_VDATUM_HEADER_LENGTH ? 0 : size - MARKER_VDATUM_HEADER_LENGTH;
+    size_t room = node_room(size, MARKER_VDATUM_HEADER_LENGTH, MARKER_VDATUM_NODE_LENGTH, MARKER_HEIGHT_NODE_LENGTH);
     uint8_t *nodes = malloc(room + 1); /* not 0, for which malloc may give NULL */
     int status = 2;
     if (nodes == NULL) {

@@ -28,6 +28,8 @@ static const char *meaning(enum marker_number number) {
     case MARKER_REFUSED_OFF_HEIGHT_GRID: return "The Bessel point lies off the height grid.";
     case MARKER_REFUSED_VDATUM_FILE: return "The VDatum file's header is no grid's, or the file or the buffer is not of its length.";
     case MARKER_REFUSED_VDATUM_HEIGHT: return "A height of the VDatum file is not finite or past its limit.";
+    case MARKER_REFUSED_NTV2_FILE: return "The NTv2 file's labels, counts or grid are not as they should be, or a length is not exact.";
+    case MARKER_REFUSED_NTV2_SHIFT: return "A shift of the NTv2 file is not finite or past its limit.";
     }
     return "This is no number of document 01.";
 }

@@ -8,7 +8,7 @@
  * what it was lent is unchanged. A list call puts 14 right after 6; 7 to 11 and 15 are put to each fix and stand in that fix's
  * answer. An image of edition 2 has its corrections on one grid and its heights on another; 3 to 6 are put to both, each question
  * to the correction grid and then to the height grid. 16 and 17 are put to VDatum files, which the bench converts into the height
- * nodes of such an image.
+ * nodes of such an image, and 18 and 19 to NTv2 files, which it converts into the correction nodes.
  */
 #ifndef MARKER_H
 #define MARKER_H
@@ -47,7 +47,12 @@ enum marker_number {
                                             out, and going back after 9 for the corrections; 9 for the heights comes last */
     MARKER_REFUSED_VDATUM_FILE = 16,     /* VDatum: a number of the header is not finite or, once rounded, is refused by 3 to 5, or
                                             the file or the buffer is not of the exact length */
-    MARKER_REFUSED_VDATUM_HEIGHT = 17    /* VDatum: a node is not finite or, once rounded, is past 1,000,000 */
+    MARKER_REFUSED_VDATUM_HEIGHT = 17,   /* VDatum: a node is not finite or, once rounded, is past 1,000,000 */
+    MARKER_REFUSED_NTV2_FILE = 18,       /* NTv2: a label is wrong, the type is not SECONDS, a record count is not 11, the number of
+                                            grids is not 1, the file or the buffer is not of the exact length, or a bound or a
+                                            spacing is not finite or, once rounded, is refused by 3 to 5 or against the node count,
+                                            or a difference of bounds is not a whole number of spacings */
+    MARKER_REFUSED_NTV2_SHIFT = 19       /* NTv2: a shift is not finite or, once rounded, is past 10,000,000 */
 };
 
 /* An image, in bytes; its numbers are little-endian. Bytes before the first node have no meaning. Nodes stand in rows, the southern
@@ -129,6 +134,29 @@ enum {
  */
 enum { MARKER_VDATUM_HEADER_LENGTH = 40, MARKER_VDATUM_NODE_LENGTH = 4 };
 
+/* An NTv2 .gsb file with one grid, in bytes; its numbers are little-endian. An overview of eleven records, the grid's header of eleven
+ * records, rows * columns nodes, and the record END, whose value is not read. Labels and texts are filled with spaces. What is not read
+ * may be anything.
+ *
+ *   record   0  char[8]  label
+ *            8  8 bytes  value: an int32_t and four bytes that are not read for a count, a double for a bound or a spacing
+ *
+ *   overview 0  NUM_OREC, a count: 11     64  VERSION    not read     128  MINOR_F   not read
+ *           16  NUM_SREC, a count: 11     80  SYSTEM_F   not read     144  MAJOR_T   not read
+ *           32  NUM_FILE, a count: 1      96  SYSTEM_T   not read     160  MINOR_T   not read
+ *           48  GS_TYPE: SECONDS         112  MAJOR_F    not read
+ *
+ *   header   0  SUB_NAME  not read        64  S_LAT   arcseconds      128  LAT_INC   arcseconds
+ *           16  PARENT    not read        80  N_LAT   arcseconds      144  LONG_INC  arcseconds
+ *           32  CREATED   not read        96  E_LONG  arcseconds      160  GS_COUNT, a count: rows * columns
+ *           48  UPDATED   not read       112  W_LONG  arcseconds
+ *
+ *   node     0  float    latitude shift, arcseconds; in rows, the southern row first, each row from east to west
+ *            4  float    longitude shift, arcseconds, positive to the west as the longitudes are
+ *            8  2 float  accuracies, not read
+ */
+enum { MARKER_NTV2_HEADERS_LENGTH = 352, MARKER_NTV2_NODE_LENGTH = 16, MARKER_NTV2_END_LENGTH = 16 };
+
 /* What stands where in the geometry that a conversion of a file hands back. */
 enum {
     MARKER_SOUTH = 0,             /* nd, as the three below */
@@ -161,13 +189,14 @@ enum {
  * reserved below it, and what is used of the red zone, the 128 bytes below the stack pointer that no handler may touch. It does not
  * grow with the image or the list. */
 enum {
-    MARKER_CODE_BYTES = 13125,
+    MARKER_CODE_BYTES = 15768,
     MARKER_GRID_CHECK_STACK = 240,
     MARKER_LIST_OUT_STACK = 1416,
     MARKER_LIST_BACK_STACK = 1416,
     MARKER_READ_NOTATION_STACK = 8,
     MARKER_WRITE_NOTATION_STACK = 8,
-    MARKER_HEIGHTS_FROM_VDATUM_STACK = 200
+    MARKER_HEIGHTS_FROM_VDATUM_STACK = 200,
+    MARKER_CORRECTIONS_FROM_NTV2_STACK = 344
 };
 
 /* The grid check. Gives 0 with the findings written, or 1 to 6, 9 or 12. */
@@ -193,6 +222,13 @@ int64_t marker_write_notation(bool longitude, int64_t nd, uint64_t notation[MARK
  * edition 2, ready to be burned. Gives 0 with the nodes and the geometry written, or 16 or 17 with both unchanged. */
 int64_t marker_heights_from_vdatum(const uint8_t *file, size_t file_len, uint8_t *nodes, size_t nodes_len,
                                    int64_t geometry[MARKER_GEOMETRY_LENGTH]);
+
+/* Converts an NTv2 file with one grid: the signs of longitudes and of their shifts are turned, then every angle becomes the nearest nd,
+ * halves upward, from the float's exact value. The buffer `nodes` has room for 8 * rows * columns bytes, no more and no less, and gets
+ * the correction nodes of an image of edition 2, ready to be burned. Gives 0 with the nodes and the geometry written, or 18 or 19 with
+ * both unchanged. */
+int64_t marker_corrections_from_ntv2(const uint8_t *file, size_t file_len, uint8_t *nodes, size_t nodes_len,
+                                     int64_t geometry[MARKER_GEOMETRY_LENGTH]);
 
 #ifdef __cplusplus
 }

@@ -34,7 +34,7 @@ pub fn require_off_heights() {
     let grid = grid::narrow_heights();
     require(&grid, &fixes::spread(&grid.heights, OTHER_FIXES));
     for way in [Way::Out, Way::Back] {
-        let answers = list_of(Implementation::Plain, way, &grid, &others(&grid));
+        let answers = list_of(Implementation::Plain, way, &grid.image, &others(&grid));
         let seen = answers.chunks_exact(5).any(|answer| answer[4] == 15);
         assert!(seen, "no fix {way:?} is off the heights");
     }
@@ -43,8 +43,8 @@ pub fn require_off_heights() {
 /// Compares both ways' answers to a list.
 fn require_answers(grid: &Grid, fixes: &[i64]) {
     for way in [Way::Out, Way::Back] {
-        let found = list_of(Implementation::Library, way, grid, fixes);
-        let expected = list_of(Implementation::Plain, way, grid, fixes);
+        let found = list_of(Implementation::Library, way, &grid.image, fixes);
+        let expected = list_of(Implementation::Plain, way, &grid.image, fixes);
         assert!(found == expected, "the answers {way:?} differ");
     }
 }
@@ -63,35 +63,35 @@ fn others(grid: &Grid) -> Vec<i64> {
 pub fn distances(grid: &Grid, pipeline: &Pipeline, fixes: &[i64]) -> [Distance; 2] {
     let mut largest = [Distance::default(); 2];
     for way in [Way::Out, Way::Back] {
-        let answers = list_of(Implementation::Library, way, grid, fixes);
-        let floating = list_of(Implementation::Floating, way, grid, fixes);
+        let answers = list_of(Implementation::Library, way, &grid.image, fixes);
+        let floating = list_of(Implementation::Floating, way, &grid.image, fixes);
         let mut positions = proj::positions(fixes);
         pipeline.convert(way, &mut positions);
-        let others = floating.chunks_exact(5).zip(&positions);
-        for (answer, (near, position)) in answers.chunks_exact(5).zip(others) {
-            assert_eq!(answer[4], 0, "a fix is refused");
-            largest[0].widen(answer, [near[0], near[1], near[2]].map(|it| it as f64));
-            largest[1].widen(
-                answer,
-                [position[1] * 1e9, position[0] * 1e9, position[2] * 1e4],
-            );
-        }
+        let near = floating.chunks_exact(5);
+        let near = near.map(|it| [it[0], it[1], it[2]].map(|it| it as f64));
+        largest[0].widen(&answers, near);
+        largest[1].widen(&answers, positions.iter().map(proj::in_units));
     }
     largest
 }
 
 impl Distance {
-    /// With the distance of another answer, in nd and units, from the library's.
-    fn widen(&mut self, answer: &[i64], other: [f64; 3]) {
-        let [north, east, up] = [0, 1, 2].map(|k| (other[k] - answer[k] as f64).abs());
-        self.angle = self.angle.max(north).max(east);
-        self.height = self.height.max(up);
+    /// With the distances of others' answers, in nd and units, from the library's. Every fix must be
+    /// answered.
+    pub fn widen(&mut self, answers: &[i64], others: impl Iterator<Item = [f64; 3]>) {
+        for (answer, other) in answers.chunks_exact(5).zip(others) {
+            assert_eq!(answer[4], 0, "a fix is refused");
+            let [north, east, up] = [0, 1, 2].map(|k| (other[k] - answer[k] as f64).abs());
+            self.angle = self.angle.max(north).max(east);
+            self.height = self.height.max(up);
+        }
     }
 }
 
-fn list_of(implementation: Implementation, way: Way, grid: &Grid, fixes: &[i64]) -> Vec<i64> {
+/// The answers of an implementation to a list.
+pub fn list_of(implementation: Implementation, way: Way, image: &[u8], fixes: &[i64]) -> Vec<i64> {
     let mut answers = vec![-1; fixes.len() / 3 * 5];
-    let number = implementation.list(way, &grid.image, fixes, &mut answers);
+    let number = implementation.list(way, image, fixes, &mut answers);
     assert_eq!(number, 0, "the list call refuses");
     answers
 }

@@ -19,12 +19,12 @@ const PLAIN: usize = 1;
 const FLOATING: usize = 2;
 const PROJ: usize = 3;
 
-pub fn write(editions: &[Measured; 2], files: &FileSpeeds) -> String {
+pub fn write(editions: &[Measured; 2], files: &[FileSpeeds]) -> String {
     let mut text = String::from("\n## Goals\n\ngoal | measured | |\n---|---:|---|\n");
     let told = |met: bool| if met { "met" } else { "missed" };
     let goals = both_editions(editions).into_iter();
     let goals = goals.chain(beside_floating(&editions[0]));
-    for goal in goals.chain([of_files(files)]) {
+    for goal in goals.chain(files.iter().map(of_files)) {
         let (words, measured, wanted) = (goal.words, goal.measured, goal.wanted);
         let met = told(measured >= wanted);
         let _ = writeln!(
@@ -35,9 +35,12 @@ pub fn write(editions: &[Measured; 2], files: &FileSpeeds) -> String {
     let growth = largest(editions.iter().map(growth));
     let words = "instructions of a fix: most / least over an edition's grid sizes is below 1.01";
     let _ = writeln!(text, "{words} | {growth:.3} | {} |", told(growth < 1.01));
-    let (seconds, size) = (largest_file(files), size_words(LARGEST));
-    let words = format!("VDatum files of {size}: most seconds of the library are below 1");
-    let _ = writeln!(text, "{words} | {seconds:.2} | {} |", told(seconds < 1.0));
+    for files in files {
+        let (kind, size) = (files.kind.words(), size_words(LARGEST));
+        let words = format!("{kind} files of {size}: most seconds of the library are below 1");
+        let seconds = largest_file(files);
+        let _ = writeln!(text, "{words} | {seconds:.2} | {} |", told(seconds < 1.0));
+    }
     text
 }
 
@@ -85,20 +88,20 @@ fn beside_floating(first: &Measured) -> [Goal; 2] {
     [goal("out", row.out, 0.9), goal("back", row.back, 0.6)]
 }
 
-/// The goal beside i128 over all VDatum files.
+/// The goal beside i128 over all files of a kind.
 fn of_files(files: &FileSpeeds) -> Goal {
     let ratios = files.files.iter().map(|file| {
         let [library, plain] = file.nodes_per_second();
         library / plain
     });
     Goal {
-        words: "VDatum files: least library / i128".to_string(),
+        words: format!("{} files: least library / i128", files.kind.words()),
         measured: least(ratios),
         wanted: 1.0,
     }
 }
 
-/// The library's most seconds of a VDatum file of the largest size.
+/// The library's most seconds of a file of the largest size.
 fn largest_file(files: &FileSpeeds) -> f64 {
     let such = files.files.iter().filter(|file| file.size == LARGEST);
     largest(such.map(|file| file.seconds[LIBRARY]))

@@ -4,7 +4,10 @@ mod made_up;
 #[cfg(test)]
 mod tests;
 
-pub use made_up::{narrow_heights, national, wide_heights, with_count, zeros};
+pub use made_up::{
+    narrow_heights, national, own_heights, wide_heights, with_count, zeros, CORRECTION_SPACINGS,
+    HEIGHT_SPACINGS,
+};
 
 /// The editions of the image.
 #[derive(Clone, Copy, Debug, PartialEq, Eq)]

@@ -1,9 +1,11 @@
 //! What both programs of the bench share: made-up grids, fixes and files, and the implementations
 //! of each call behind one interface.
 
+pub mod files;
 pub mod fixes;
 pub mod floating;
 pub mod grid;
+pub mod gsb;
 pub mod gtx;
 pub mod library;
 pub mod plain;
@@ -14,7 +16,7 @@ pub use grid::Edition;
 /// A grid check of an image, that writes its findings and gives its number.
 pub type GridCheck = fn(&[u8], &mut [i64; 6]) -> i64;
 
-/// A conversion of a VDatum file, that writes the nodes and the geometry and gives its number.
+/// A conversion of a file, that writes the nodes and the geometry and gives its number.
 pub type FileConversion = fn(&[u8], &mut [u8], &mut [i64; 6]) -> i64;
 
 /// The implementations of the list call over an image.

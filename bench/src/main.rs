@@ -1,5 +1,5 @@
 //! Measures the library, the plain implementations and PROJ over images of both editions, and the
-//! conversion of VDatum files. `bench FOLDER` writes the table and the plot there, as table.md and
+//! conversion of VDatum and NTv2 files. `bench FOLDER` writes the table and the plot there, as table.md and
 //! plot.svg; `bench --quick` prints a short table of each edition and of the files.
 
 mod agreement;
@@ -7,6 +7,8 @@ mod counts;
 mod file_agreement;
 mod file_speeds;
 mod goals;
+#[cfg(test)]
+mod image_tests;
 mod machine;
 mod measure;
 mod plan;
@@ -29,10 +31,9 @@ fn main() {
         for edition in [Edition::First, Edition::Second] {
             print!("{}", table::edition(&measure(Plan::quick(edition))));
         }
-        print!(
-            "{}",
-            table::files(&file_speeds::measure(&FilePlan::quick()))
-        );
+        for files in &file_speeds::measure_all(&FilePlan::quick()) {
+            print!("{}", table::files(files));
+        }
     } else {
         write_results(Path::new(&word));
     }
@@ -40,7 +41,7 @@ fn main() {
 
 fn write_results(folder: &Path) {
     let editions = [Edition::First, Edition::Second].map(|it| measure(Plan::whole(it)));
-    let files = file_speeds::measure(&FilePlan::whole());
+    let files = file_speeds::measure_all(&FilePlan::whole());
     fs::create_dir_all(folder).expect("the results' folder");
     let table = table::write(&editions, &files);
     print!("{table}");

@@ -1,11 +1,13 @@
-//! A straightforward implementation of document 01, of edition 2 of its image and of VDatum files
-//! (document 02, notes 1 and 2), over i128, written for speed.
+//! A straightforward implementation of document 01, of edition 2 of its image and of VDatum and NTv2
+//! files (document 02, notes 1, 2 and 4), over i128, written for speed.
 
 mod axis;
+mod file_geometry;
 mod first;
 mod fix;
 mod floats;
 mod nodes;
+mod ntv2;
 mod second;
 mod slopes;
 #[cfg(test)]
@@ -13,6 +15,7 @@ mod tests;
 mod trailer;
 mod vdatum;
 
+pub use ntv2::corrections_from_ntv2;
 pub use vdatum::heights_from_vdatum;
 
 use crate::Way;

@@ -17,7 +17,7 @@ pub struct Plan {
     pub repeats: usize,
 }
 
-/// What is measured of the conversion of VDatum files.
+/// What is measured of the conversion of each kind of files.
 pub struct FilePlan {
     pub sizes: &'static [Size],
     /// Measurements of one piece of work.

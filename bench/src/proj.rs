@@ -91,6 +91,11 @@ pub fn positions(fixes: &[i64]) -> Vec<Position> {
     fixes.chunks_exact(3).map(position).collect()
 }
 
+/// A position's latitude and longitude in nd and its height in units of 0.0001 m, not rounded.
+pub fn in_units(position: &Position) -> [f64; 3] {
+    [position[1] * 1e9, position[0] * 1e9, position[2] * 1e4]
+}
+
 /// PROJ's release.
 pub fn release() -> String {
     let release = unsafe { CStr::from_ptr(proj_info().release) };

@@ -21,7 +21,7 @@ pub struct Measured {
     pub counts: Counts,
 }
 
-pub fn write(editions: &[Measured; 2], files: &FileSpeeds) -> String {
+pub fn write(editions: &[Measured; 2], files: &[FileSpeeds]) -> String {
     let mut text = String::from("# Speed of the conversion\n\n");
     text += &machine::words();
     let _ = writeln!(
@@ -34,7 +34,9 @@ pub fn write(editions: &[Measured; 2], files: &FileSpeeds) -> String {
     for measured in editions {
         text += &edition(measured);
     }
-    text += &self::files(files);
+    for files in files {
+        text += &self::files(files);
+    }
     text += &agreement(editions, files);
     text += &goals::write(editions, files);
     text
@@ -75,15 +77,16 @@ pub fn edition(measured: &Measured) -> String {
     text
 }
 
-/// The table of VDatum files.
+/// The table of a kind of files.
 pub fn files(files: &FileSpeeds) -> String {
-    let mut text = String::from("\n## VDatum files: nodes converted per second\n\n");
+    let kind = files.kind.words();
+    let mut text = format!("\n## {kind} files: nodes converted per second\n\n");
     text += "file | library | i128 | library / i128 | library, seconds a file |\n";
     text += "---|---:|---:|---:|---:|\n";
     for file in &files.files {
         let [library, plain] = file.nodes_per_second();
         let (first, second) = (grouped(library), grouped(plain));
-        let (words, ratio, seconds) = (file.words(), library / plain, file.seconds[0]);
+        let (words, ratio, seconds) = (&file.words, library / plain, file.seconds[0]);
         let _ = writeln!(
             text,
             "{words} | {first} | {second} | {ratio:.2} | {seconds:.4} |"
@@ -179,7 +182,7 @@ fn instructions(sizes: &[String], counts: &Counts) -> String {
     text
 }
 
-fn agreement(editions: &[Measured; 2], files: &FileSpeeds) -> String {
+fn agreement(editions: &[Measured; 2], files: &[FileSpeeds]) -> String {
     let [others, taken] = [OTHER_FIXES, LENGTH_OF_DISTANCE].map(|count| grouped(count as f64));
     let size = size_words(SIZE_OF_LENGTHS);
     let mut text = format!(
@@ -187,10 +190,10 @@ fn agreement(editions: &[Measured; 2], files: &FileSpeeds) -> String {
          fixes above, and to {others} more on, near and past the bounds of each grid of \
          corrections and, in edition 2, of heights; also over an image of edition 2 whose heights \
          leave out part of the corrections, where fixes get number 15. They converted all files \
-         above to the same nodes and geometry, and refused {} others with the same number, 16 or 17, \
-         and nothing changed. On the grids of {size} the answers to {taken} fixes lie at most so far \
-         from the library's:\n\n",
-        files.refused
+         above to the same nodes and geometry, and refused others with the same number and nothing \
+         changed: {}. On the grids of {size} the answers to {taken} fixes lie at most so far from \
+         the library's:\n\n",
+        refused_words(files)
     );
     text += "edition | f64, nd | f64, units | PROJ, nd | PROJ, units |\n";
     text += "---|---:|---:|---:|---:|\n";
@@ -207,6 +210,15 @@ fn agreement(editions: &[Measured; 2], files: &FileSpeeds) -> String {
         );
     }
     text
+}
+
+/// How many files of each kind were refused, and with which numbers.
+fn refused_words(files: &[FileSpeeds]) -> String {
+    let of_kind = |it: &FileSpeeds| {
+        let ([first, second], kind) = (it.kind.numbers(), it.kind.words());
+        format!("{} {kind} files with {first} or {second}", it.refused)
+    };
+    files.iter().map(of_kind).collect::<Vec<_>>().join(", ")
 }
 
 /// A whole number with commas.

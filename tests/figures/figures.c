@@ -1,5 +1,6 @@
 /* The figures of document 01, starred and unstarred, each by name, put to the built library; the points of docs/ROUNDING.md; and figures
- * of our own for images of edition 2 and for VDatum files, which document 02 has none for. Prints `ok NAME` or `FAILED NAME`. */
+ * of our own for images of edition 2, for VDatum files and for NTv2 files, which document 02 has none for. Prints `ok NAME` or
+ * `FAILED NAME`. */
 #include <inttypes.h>
 #include <stdio.h>
 #include <string.h>
@@ -194,91 +195,210 @@ static void refusals_of_edition_2(void) {
     tell("edition 2: one height of 1,000,001 gives 9", check_refuses(&image, 9));
 }
 
-/* A VDatum file of 2 rows and 3 columns, 64 bytes, and its nodes, 24. */
-enum { HEIGHTS = 6, NODES_LENGTH = HEIGHTS * MARKER_HEIGHT_NODE_LENGTH, FILE_LENGTH = MARKER_VDATUM_HEADER_LENGTH + NODES_LENGTH };
+/* Grid files of 2 rows and 3 columns, of VDatum with 64 bytes and of NTv2 with 464, and their nodes, 24 and 48. */
+enum {
+    NODES = 6,
+    HEIGHTS_LENGTH = NODES * MARKER_HEIGHT_NODE_LENGTH,
+    VDATUM_LENGTH = MARKER_VDATUM_HEADER_LENGTH + NODES * MARKER_VDATUM_NODE_LENGTH,
+    CORRECTIONS_LENGTH = NODES * MARKER_CORRECTION_NODE_LENGTH,
+    NTV2_LENGTH = MARKER_NTV2_HEADERS_LENGTH + NODES * MARKER_NTV2_NODE_LENGTH + MARKER_NTV2_END_LENGTH
+};
+
+typedef int64_t conversion(const uint8_t *, size_t, uint8_t *, size_t, int64_t *);
+typedef uint8_t *writer(uint8_t *, int64_t, int);
+
+/* A file with its conversion and how its numbers are written, and with one byte more for a length that is wrong. */
+struct file {
+    conversion *convert;
+    writer *put;
+    size_t length, nodes_length;
+    uint8_t bytes[NTV2_LENGTH + 1];
+};
 
 /* A number of so many bytes, the highest first. */
-static uint8_t *put_high_first(uint8_t *at, uint64_t value, int bytes) {
+static uint8_t *put_high_first(uint8_t *at, int64_t value, int bytes) {
     for (int i = bytes - 1; i >= 0; i--) {
-        *at++ = (uint8_t)(value >> (8 * i));
+        *at++ = (uint8_t)((uint64_t)value >> (8 * i));
     }
     return at;
 }
 
-/* The file, with one byte more for a length that is wrong: from 52 and 5 degrees, spacings 0.01 and 0.0125 degrees; heights of 43 m,
- * 43.1234 m, 1/32 m, -1/32 m, -0 m and the last float that rounds to -100 m. */
-static void vdatum(uint8_t file[FILE_LENGTH + 1]) {
-    const uint64_t angles[] = {0x404A000000000000, 0x4014000000000000, 0x3F847AE147AE147B, 0x3F8999999999999A};
-    const uint64_t heights[HEIGHTS] = {0x422C0000, 0x422C7E5D, 0x3D000000, 0xBD000000, 0x80000000, 0xC2C80006};
-    uint8_t *at = file;
-    for (int i = 0; i < 4; i++) {
-        at = put_high_first(at, angles[i], 8);
-    }
-    at = put_high_first(put_high_first(at, 2, 4), 3, 4);
-    for (int i = 0; i < HEIGHTS; i++) {
-        at = put_high_first(at, heights[i], 4);
-    }
-    *at = 0;
-}
-
-/* Is this what the file becomes? */
-static bool converts(const uint8_t *file, const int64_t heights[HEIGHTS], const int64_t wanted[MARKER_GEOMETRY_LENGTH]) {
-    uint8_t nodes[NODES_LENGTH], wanted_nodes[NODES_LENGTH];
+/* Is this what the file becomes, its nodes by their numbers of 4 bytes? */
+static bool converts(const struct file *file, const int64_t numbers[], const int64_t wanted[MARKER_GEOMETRY_LENGTH]) {
+    uint8_t nodes[CORRECTIONS_LENGTH], wanted_nodes[CORRECTIONS_LENGTH];
     int64_t geometry[MARKER_GEOMETRY_LENGTH];
-    for (int i = 0; i < HEIGHTS; i++) {
-        put(wanted_nodes + i * MARKER_HEIGHT_NODE_LENGTH, heights[i], MARKER_HEIGHT_NODE_LENGTH);
+    for (size_t i = 0; i < file->nodes_length / 4; i++) {
+        put(wanted_nodes + 4 * i, numbers[i], 4);
     }
-    return marker_heights_from_vdatum(file, FILE_LENGTH, nodes, NODES_LENGTH, geometry) == MARKER_DONE &&
-           memcmp(nodes, wanted_nodes, NODES_LENGTH) == 0 && memcmp(geometry, wanted, sizeof geometry) == 0;
+    return file->convert(file->bytes, file->length, nodes, file->nodes_length, geometry) == MARKER_DONE &&
+           memcmp(nodes, wanted_nodes, file->nodes_length) == 0 && memcmp(geometry, wanted, sizeof geometry) == 0;
 }
 
 /* Is this the number of a file and a buffer of these lengths, and are buffer and geometry as they were? */
-static bool file_refused(const uint8_t *file, size_t file_length, size_t nodes_length, int64_t number) {
-    uint8_t nodes[NODES_LENGTH + 1], nodes_before[NODES_LENGTH + 1];
+static bool file_refused(const struct file *file, size_t file_length, size_t nodes_length, int64_t number) {
+    uint8_t nodes[CORRECTIONS_LENGTH + 1], nodes_before[CORRECTIONS_LENGTH + 1];
     int64_t geometry[MARKER_GEOMETRY_LENGTH], geometry_before[MARKER_GEOMETRY_LENGTH];
     memset(nodes_before, 0xA5, sizeof nodes);
     memset(geometry_before, 0xA5, sizeof geometry);
     memcpy(nodes, nodes_before, sizeof nodes);
     memcpy(geometry, geometry_before, sizeof geometry);
-    return marker_heights_from_vdatum(file, file_length, nodes, nodes_length, geometry) == number &&
+    return file->convert(file->bytes, file_length, nodes, nodes_length, geometry) == number &&
            memcmp(nodes, nodes_before, sizeof nodes) == 0 && memcmp(geometry, geometry_before, sizeof geometry) == 0;
 }
 
-/* The same for the file with other bytes at a place, the highest first. */
-static bool changed_refused(size_t place, uint64_t value, int bytes, int64_t number) {
-    uint8_t file[FILE_LENGTH + 1];
-    vdatum(file);
-    put_high_first(file + place, value, bytes);
-    return file_refused(file, FILE_LENGTH, NODES_LENGTH, number);
+/* The same for the file with another number at a place. */
+static bool changed_refused(const struct file *file, size_t place, uint64_t value, int bytes, int64_t number) {
+    struct file changed = *file;
+    changed.put(changed.bytes + place, (int64_t)value, bytes);
+    return file_refused(&changed, changed.length, changed.nodes_length, number);
+}
+
+/* Does this refusal follow a byte too few or too many in file and buffer, and a file of so few bytes? */
+static void refusals_of_lengths(const char *format, const struct file *file, size_t few, int64_t number) {
+    const struct {
+        const char *name;
+        size_t file_length, nodes_length;
+    } lengths[] = {
+        {"a file too short for its header", few, file->nodes_length},
+        {"a file one byte shorter", file->length - 1, file->nodes_length},
+        {"a file one byte longer", file->length + 1, file->nodes_length},
+        {"a buffer one byte shorter", file->length, file->nodes_length - 1},
+        {"a buffer one byte longer", file->length, file->nodes_length + 1},
+    };
+    for (size_t i = 0; i < sizeof lengths / sizeof *lengths; i++) {
+        char name[100];
+        snprintf(name, sizeof name, "%s: %s gives %" PRId64, format, lengths[i].name, number);
+        tell(name, file_refused(file, lengths[i].file_length, lengths[i].nodes_length, number));
+    }
+}
+
+/* From 52 and 5 degrees, spacings 0.01 and 0.0125 degrees; heights of 43 m, 43.1234 m, 1/32 m, -1/32 m, -0 m and the last float that rounds
+ * to -100 m. */
+static struct file vdatum(void) {
+    const uint64_t angles[] = {0x404A000000000000, 0x4014000000000000, 0x3F847AE147AE147B, 0x3F8999999999999A};
+    const uint32_t heights[NODES] = {0x422C0000, 0x422C7E5D, 0x3D000000, 0xBD000000, 0x80000000, 0xC2C80006};
+    struct file file = {marker_heights_from_vdatum, put_high_first, VDATUM_LENGTH, HEIGHTS_LENGTH, {0}};
+    uint8_t *at = file.bytes;
+    for (int i = 0; i < 4; i++) {
+        at = put_high_first(at, (int64_t)angles[i], 8);
+    }
+    at = put_high_first(put_high_first(at, 2, 4), 3, 4);
+    for (int i = 0; i < NODES; i++) {
+        at = put_high_first(at, heights[i], 4);
+    }
+    return file;
 }
 
 static void figures_of_vdatum(void) {
-    uint8_t file[FILE_LENGTH + 1];
-    vdatum(file);
+    struct file file = vdatum();
     tell("VDatum: 43, 43.1234, 1/32, -1/32, -0 and -100.00004577 m give 430000 431234 313 -312 0 -1000000",
-         converts(file, (int64_t[]){430000, 431234, 313, -312, 0, -1000000}, (int64_t[]){SOUTH, WEST, 10000000, 12500000, 2, 3}));
-    put_high_first(put_high_first(file, 0xBF50000000000000, 8), 0x3F50000000000000, 8);
-    put_high_first(put_high_first(file + 40, 1, 4), 0x42C80006, 4);
+         converts(&file, (int64_t[]){430000, 431234, 313, -312, 0, -1000000}, (int64_t[]){SOUTH, WEST, 10000000, 12500000, 2, 3}));
+    put_high_first(put_high_first(file.bytes, (int64_t)0xBF50000000000000, 8), 0x3F50000000000000, 8);
+    put_high_first(put_high_first(file.bytes + 40, 1, 4), 0x42C80006, 4);
     tell("VDatum: from -1/1024 and 1/1024 degrees, -976562 and 976563; a subnormal height is 0, 100.00004577 m 1000000",
-         converts(file, (int64_t[]){0, 1000000, 313, -312, 0, -1000000}, (int64_t[]){-976562, 976563, 10000000, 12500000, 2, 3}));
+         converts(&file, (int64_t[]){0, 1000000, 313, -312, 0, -1000000}, (int64_t[]){-976562, 976563, 10000000, 12500000, 2, 3}));
 }
 
 static void refusals_of_vdatum(void) {
-    uint8_t file[FILE_LENGTH + 1];
-    vdatum(file);
-    tell("VDatum: 39 bytes give 16", file_refused(file, 39, NODES_LENGTH, 16));
-    tell("VDatum: a file one byte shorter gives 16", file_refused(file, FILE_LENGTH - 1, NODES_LENGTH, 16));
-    tell("VDatum: a file one byte longer gives 16", file_refused(file, FILE_LENGTH + 1, NODES_LENGTH, 16));
-    tell("VDatum: a buffer one byte shorter gives 16", file_refused(file, FILE_LENGTH, NODES_LENGTH - 1, 16));
-    tell("VDatum: a buffer one byte longer gives 16", file_refused(file, FILE_LENGTH, NODES_LENGTH + 1, 16));
-    tell("VDatum: an infinite latitude gives 16", changed_refused(0, 0x7FF0000000000000, 8, 16));
-    tell("VDatum: a spacing that rounds to 0 gives 16", changed_refused(16, 1, 8, 16));
-    tell("VDatum: one row of 6 columns gives 16", changed_refused(32, 0x0000000100000006, 8, 16));
-    tell("VDatum: -2 rows of -3 columns give 16", changed_refused(32, 0xFFFFFFFEFFFFFFFD, 8, 16));
-    tell("VDatum: a last height that is no number gives 17", changed_refused(60, 0x7FC00000, 4, 17));
-    tell("VDatum: a last height of 100.00005341 m gives 17", changed_refused(60, 0x42C80007, 4, 17));
-    put_high_first(put_high_first(file + 36, 4, 4), 0x7FC00000, 4);
-    tell("VDatum: 16 comes before 17", file_refused(file, FILE_LENGTH, NODES_LENGTH, 16));
+    struct file file = vdatum();
+    refusals_of_lengths("VDatum", &file, 39, 16);
+    tell("VDatum: an infinite latitude gives 16", changed_refused(&file, 0, 0x7FF0000000000000, 8, 16));
+    tell("VDatum: a spacing that rounds to 0 gives 16", changed_refused(&file, 16, 1, 8, 16));
+    tell("VDatum: one row of 6 columns gives 16", changed_refused(&file, 32, 0x0000000100000006, 8, 16));
+    tell("VDatum: -2 rows of -3 columns give 16", changed_refused(&file, 32, 0xFFFFFFFEFFFFFFFD, 8, 16));
+    tell("VDatum: a last height that is no number gives 17", changed_refused(&file, 60, 0x7FC00000, 4, 17));
+    tell("VDatum: a last height of 100.00005341 m gives 17", changed_refused(&file, 60, 0x42C80007, 4, 17));
+    put_high_first(put_high_first(file.bytes + 36, 4, 4), 0x7FC00000, 4);
+    tell("VDatum: 16 comes before 17", file_refused(&file, VDATUM_LENGTH, HEIGHTS_LENGTH, 16));
+}
+
+/* The labels of an NTv2 file in turn, and of its last record. */
+static const char ntv2_labels[] = "NUM_ORECNUM_SRECNUM_FILEGS_TYPE VERSION SYSTEM_FSYSTEM_TMAJOR_F MINOR_F MAJOR_T MINOR_T "
+                                  "SUB_NAMEPARENT  CREATED UPDATED S_LAT   N_LAT   E_LONG  W_LONG  LAT_INC LONG_INCGS_COUNTEND     ";
+
+enum { NTV2_RECORDS = 23, TEXT_LENGTH = 8 };
+
+/* Where a record begins: the last one behind the nodes. */
+static size_t ntv2_record(int record) {
+    return record < NTV2_RECORDS - 1 ? (size_t)record * 16 : NTV2_LENGTH - MARKER_NTV2_END_LENGTH;
+}
+
+/* The file of crates/rules/proofs/Ntv2File.antt, which has 0xEE wherever nothing is read: from 52 degrees to 0.01 degree further north,
+ * from 17,999.859375 to 18,089.859375 arcseconds east, whose nd are exact halves, spacings 36 and 45 arcseconds. From the south-east,
+ * westward, the latitude shifts are 9/64 arcsecond, which is 39,062.5 nd, its negative, 0, 36, -36, -0, and the longitude shifts the same
+ * in another order. */
+static struct file ntv2(void) {
+    const uint64_t angles[] = {0x4106DA0000000000, 0x4106DB2000000000, 0xC0D1AA7700000000,
+                               0xC0D193F700000000, 0x4042000000000000, 0x4046800000000000};
+    const uint32_t shifts[NODES][2] = {{0x3E100000, 0x3E100000}, {0xBE100000, 0}, {0, 0xBE100000},
+                                       {0x42100000, 0xC2100000}, {0xC2100000, 0x42100000}, {0x80000000, 0x80000000}};
+    struct file file = {marker_corrections_from_ntv2, put, NTV2_LENGTH, CORRECTIONS_LENGTH, {0}};
+    memset(file.bytes, 0xEE, NTV2_LENGTH);
+    for (int i = 0; i < NTV2_RECORDS; i++) {
+        memcpy(file.bytes + ntv2_record(i), ntv2_labels + i * TEXT_LENGTH, TEXT_LENGTH);
+    }
+    put(file.bytes + 8, 11, 4);
+    put(file.bytes + 24, 11, 4);
+    put(file.bytes + 40, 1, 4);
+    memcpy(file.bytes + 56, "SECONDS ", TEXT_LENGTH);
+    for (int i = 0; i < 6; i++) {
+        put(file.bytes + 248 + 16 * i, (int64_t)angles[i], 8);
+    }
+    put(file.bytes + 344, NODES, 4);
+    for (int i = 0; i < NODES; i++) {
+        put(put(file.bytes + 352 + 16 * i, shifts[i][0], 4), shifts[i][1], 4);
+    }
+    return file;
+}
+
+/* Is this what an NTv2 file becomes: the numbers that Ntv2File.antt computes? */
+static bool becomes_corrections(const struct file *file) {
+    const int64_t corrections[] = {0, 39063, -39062, 0, 39063, -39062, 0, 0, -10000000, -10000000, 10000000, 10000000};
+    return converts(file, corrections, (int64_t[]){SOUTH, INT64_C(4999960938), 10000000, 12500000, 2, 3});
+}
+
+static void figures_of_ntv2(void) {
+    struct file file = ntv2();
+    tell("NTv2: 9/64, -9/64, 36 and -36 arcseconds give 39063 -39062 10000000 -10000000, turned and from the west",
+         becomes_corrections(&file));
+    for (int record = 4; record < 15; record++) {
+        memcpy(file.bytes + 16 * record + 8, "NONE    ", TEXT_LENGTH);
+    }
+    for (int node = 0; node < NODES; node++) {
+        put(file.bytes + 360 + 16 * node, (int64_t)0xFF8000007FC00000, 8);
+    }
+    put(file.bytes + 12, 0, 4);
+    put(file.bytes + 348, 0, 4);
+    put(file.bytes + NTV2_LENGTH - TEXT_LENGTH, 0, 8);
+    tell("NTv2: other texts, accuracies, and bytes after counts and END change nothing", becomes_corrections(&file));
+}
+
+static void refusals_of_ntv2(void) {
+    struct file file = ntv2();
+    refusals_of_lengths("NTv2", &file, 367, 18);
+    bool labels = true, infinite = true;
+    for (int record = 0; record < NTV2_RECORDS; record++) {
+        labels = changed_refused(&file, ntv2_record(record) + 7, 0, 1, 18) && labels;
+    }
+    for (int angle = 0; angle < 6; angle++) {
+        infinite = changed_refused(&file, 248 + 16 * (size_t)angle, 0x7FF0000000000000, 8, 18) && infinite;
+    }
+    tell("NTv2: a label that ends otherwise gives 18, each of 23", labels);
+    tell("NTv2: a type that begins with M gives 18", changed_refused(&file, 56, 'M', 1, 18));
+    tell("NTv2: ten records in the overview give 18", changed_refused(&file, 8, 10, 4, 18));
+    tell("NTv2: ten records in the header give 18", changed_refused(&file, 24, 10, 4, 18));
+    tell("NTv2: two grids give 18", changed_refused(&file, 40, 2, 4, 18));
+    tell("NTv2: seven nodes of 2 rows and 3 columns give 18", changed_refused(&file, 344, 7, 4, 18));
+    tell("NTv2: an infinite bound or spacing gives 18, each of 6", infinite);
+    tell("NTv2: a row and a half give 18", changed_refused(&file, 264, 0x4106DBB000000000, 8, 18));
+    tell("NTv2: an eastern bound 1 nd off gives 18", changed_refused(&file, 280, 0xC0D1AA770016A635, 8, 18));
+    tell("NTv2: a spacing below zero gives 18", changed_refused(&file, 312, 0xC042000000000000, 8, 18));
+    tell("NTv2: an infinite first latitude shift gives 19", changed_refused(&file, 352, 0x7F800000, 4, 19));
+    tell("NTv2: a last longitude shift that is no number gives 19", changed_refused(&file, 436, 0xFFC00000, 4, 19));
+    tell("NTv2: a last latitude shift just past 36 gives 19", changed_refused(&file, 432, 0x42100001, 4, 19));
+    tell("NTv2: a first longitude shift just past -36 gives 19", changed_refused(&file, 356, 0xC2100001, 4, 19));
+    put(file.bytes + 352, 0x7F800000, 4);
+    tell("NTv2: 18 comes before 19", file_refused(&file, NTV2_LENGTH, CORRECTIONS_LENGTH + 1, 18));
 }
 
 static void figures_of_notation(void) {
@@ -300,5 +420,7 @@ int main(void) {
     refusals_of_edition_2();
     figures_of_vdatum();
     refusals_of_vdatum();
+    figures_of_ntv2();
+    refusals_of_ntv2();
     return failures == 0 ? 0 : 1;
 }

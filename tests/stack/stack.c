@@ -1,6 +1,6 @@
 /* Measures how much stack each call of the built library writes: not more than the figure in marker.h. Prints `ok NAME` or
- * `FAILED NAME` for each call. An image of a few nodes around grid G's is read from standard input, of edition 1 or 2; notations and
- * VDatum files are measured with edition 1.
+ * `FAILED NAME` for each call. An image of a few nodes around grid G's is read from standard input, of edition 1 or 2; notations,
+ * VDatum files and NTv2 files are measured with edition 1.
  *
  * A call is made on a stack of its own that is filled with one byte; what has another byte afterwards was written. */
 #include <inttypes.h>
@@ -26,6 +26,28 @@ static uint8_t vdatum[] = {
     0x3F, 0x84, 0x7A, 0xE1, 0x47, 0xAE, 0x14, 0x7B, 0x3F, 0x89, 0x99, 0x99, 0x99, 0x99, 0x99, 0x9A,
     0, 0, 0, 2, 0, 0, 0, 3,
     0x42, 0x2C, 0, 0, 0x42, 0x2C, 0x7E, 0x5D, 0x3D, 0, 0, 0, 0xBD, 0, 0, 0, 0x80, 0, 0, 0, 0xC2, 0xC8, 0, 6};
+
+/* An NTv2 file: the same grid, with shifts of 9/64, -9/64, 0, 36, -36 and -0 arcseconds in latitude, and in longitude in another order. */
+static uint8_t ntv2[] = {"NUM_OREC\x0B\0\0\0\0\0\0\0"
+                         "NUM_SREC\x0B\0\0\0\0\0\0\0"
+                         "NUM_FILE\x01\0\0\0\0\0\0\0"
+                         "GS_TYPE SECONDS VERSION 2       SYSTEM_FBESSEL  SYSTEM_TETRS89  "
+                         "MAJOR_F AXIS    MINOR_F AXIS    MAJOR_T AXIS    MINOR_T AXIS    "
+                         "SUB_NAMEGRID    PARENT  NONE    CREATED 20260101UPDATED 20260101"
+                         "S_LAT   \0\0\0\0\0\xDA\x06\x41"
+                         "N_LAT   \0\0\0\0\x20\xDB\x06\x41"
+                         "E_LONG  \0\0\0\0\x80\xAA\xD1\xC0"
+                         "W_LONG  \0\0\0\0\0\x94\xD1\xC0"
+                         "LAT_INC \0\0\0\0\0\0\x42\x40"
+                         "LONG_INC\0\0\0\0\0\x80\x46\x40"
+                         "GS_COUNT\x06\0\0\0\0\0\0\0"
+                         "\0\0\x10\x3E\0\0\x10\x3E        \0\0\x10\xBE\0\0\0\0        \0\0\0\0\0\0\x10\xBE        "
+                         "\0\0\x10\x42\0\0\x10\xC2        \0\0\x10\xC2\0\0\x10\x42        \0\0\0\x80\0\0\0\x80        "
+                         "END             "};
+
+/* The file that is converted, and the length of its nodes. */
+static uint8_t *file;
+static size_t file_length, nodes_length;
 
 static _Alignas(16) uint8_t stack[STACK_SIZE];
 static int failures = 0;
@@ -65,9 +87,9 @@ static void list(function *called) {
 }
 
 static void conversion(function *called) {
-    uint8_t nodes[sizeof vdatum - MARKER_VDATUM_HEADER_LENGTH];
+    uint8_t nodes[MOST_BYTES];
     int64_t geometry[MARKER_GEOMETRY_LENGTH];
-    call(called, (uint64_t[6]){(uintptr_t)vdatum, sizeof vdatum, (uintptr_t)nodes, sizeof nodes, (uintptr_t)geometry});
+    call(called, (uint64_t[6]){(uintptr_t)file, file_length, (uintptr_t)nodes, nodes_length, (uintptr_t)geometry});
 }
 
 /* Some calls on these bytes, and on them with each byte in turn changed. */
@@ -93,7 +115,7 @@ static void lists(function *called) {
 }
 
 static void conversions(function *called) {
-    on_changed(vdatum, sizeof vdatum, called, conversion);
+    on_changed(file, file_length, called, conversion);
 }
 
 static void readings(function *called) {
@@ -144,7 +166,10 @@ int main(void) {
     if (edition() == 1) {
         measure("marker_read_notation", (function *)marker_read_notation, readings, MARKER_READ_NOTATION_STACK);
         measure("marker_write_notation", (function *)marker_write_notation, writings, MARKER_WRITE_NOTATION_STACK);
+        file = vdatum, file_length = sizeof vdatum, nodes_length = 6 * MARKER_HEIGHT_NODE_LENGTH;
         measure("marker_heights_from_vdatum", (function *)marker_heights_from_vdatum, conversions, MARKER_HEIGHTS_FROM_VDATUM_STACK);
+        file = ntv2, file_length = sizeof ntv2 - 1, nodes_length = 6 * MARKER_CORRECTION_NODE_LENGTH;
+        measure("marker_corrections_from_ntv2", (function *)marker_corrections_from_ntv2, conversions, MARKER_CORRECTIONS_FROM_NTV2_STACK);
     }
     return failures == 0 ? 0 : 1;
 }

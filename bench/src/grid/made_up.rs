@@ -2,13 +2,43 @@
 
 use super::{Edition, Geometry, Grid};
 
-/// A grid that passes the grid check, with spacings of 0.0125 and 0.02 degrees around 52 degrees
-/// north and 5 degrees east. Its values are some 0.00095 and 0.0005 degrees and 43 m, with an
-/// uneven part that differs from node to node. In edition 2 the heights cover its bounds.
+/// Latitude and longitude spacing of the corrections, 0.0125 and 0.02 degrees.
+pub const CORRECTION_SPACINGS: [u32; 2] = [12_500_000, 20_000_000];
+
+/// Those of the heights, 0.01 and 0.0125 degrees.
+pub const HEIGHT_SPACINGS: [u32; 2] = [10_000_000, 12_500_000];
+
+impl Geometry {
+    /// The geometry of these spacings from zero on.
+    pub fn from_zero(
+        [latitude_spacing, longitude_spacing]: [u32; 2],
+        rows: u32,
+        columns: u32,
+    ) -> Geometry {
+        Geometry {
+            south: 0,
+            west: 0,
+            latitude_spacing,
+            longitude_spacing,
+            rows,
+            columns,
+        }
+    }
+
+    /// The geometry of these spacings around 52 degrees north and 5 degrees east.
+    pub fn national(spacings: [u32; 2], rows: u32, columns: u32) -> Geometry {
+        let mut geometry = Geometry::from_zero(spacings, rows, columns);
+        geometry.south = 52_000_000_000 - geometry.height() / 2;
+        geometry.west = 5_000_000_000 - geometry.width() / 2;
+        geometry
+    }
+}
+
+/// A grid that passes the grid check, around 52 degrees north and 5 degrees east. Its values are
+/// some 0.00095 and 0.0005 degrees and 43 m, with an uneven part that differs from node to node. In
+/// edition 2 the heights cover its bounds.
 pub fn national(edition: Edition, rows: u32, columns: u32) -> Grid {
-    let mut geometry = spaced(rows, columns);
-    geometry.south = 52_000_000_000 - geometry.height() / 2;
-    geometry.west = 5_000_000_000 - geometry.width() / 2;
+    let geometry = Geometry::national(CORRECTION_SPACINGS, rows, columns);
     let heights = own_heights(edition, &geometry);
     Grid::new(geometry, heights, uneven_correction, uneven_height)
 }
@@ -17,7 +47,7 @@ pub fn national(edition: Edition, rows: u32, columns: u32) -> Grid {
 /// than 2^48 nd², so the library does not weigh them as near corners.
 pub fn wide_heights(rows: u32, columns: u32) -> Grid {
     let geometry = national(Edition::First, rows, columns).corrections;
-    let heights = covering(&geometry, 20_000_000, 25_000_000);
+    let heights = covering(&geometry, [20_000_000, 25_000_000]);
     Grid::new(geometry, Some(heights), uneven_correction, uneven_height)
 }
 
@@ -27,7 +57,7 @@ pub fn narrow_heights() -> Grid {
     let corrections = Geometry {
         south: 52_000_000_000,
         west: 5_000_000_000,
-        ..spaced(64, 64)
+        ..Geometry::from_zero(CORRECTION_SPACINGS, 64, 64)
     };
     let heights = Geometry {
         south: 52_123_456_789,
@@ -42,7 +72,7 @@ pub fn narrow_heights() -> Grid {
 
 /// A grid of a size, with all values zero.
 pub fn zeros(edition: Edition, rows: u32, columns: u32) -> Grid {
-    let geometry = spaced(rows, columns);
+    let geometry = Geometry::from_zero(CORRECTION_SPACINGS, rows, columns);
     Grid::of_zeros(geometry, own_heights(edition, &geometry))
 }
 
@@ -61,37 +91,25 @@ pub fn with_count(edition: Edition, count: u32) -> Grid {
     };
     let heights = match edition {
         Edition::First => None,
-        Edition::Second => Some(covering(&geometry, 1_500_000, 1_500_000)),
+        Edition::Second => Some(covering(&geometry, [1_500_000; 2])),
     };
     let correction = |row, _| [middle_correction + 10_000 * (row as i32 - 10), 0];
     Grid::new(geometry, heights, correction, |_, _| 430_000)
 }
 
-/// The geometry from zero on with spacings of 0.0125 and 0.02 degrees.
-fn spaced(rows: u32, columns: u32) -> Geometry {
-    Geometry {
-        south: 0,
-        west: 0,
-        latitude_spacing: 12_500_000,
-        longitude_spacing: 20_000_000,
-        rows,
-        columns,
-    }
-}
-
-/// The heights' own geometry in edition 2: spacings of 0.01 and 0.0125 degrees, or the
-/// corrections' geometry where rows or columns would be too many.
+/// The heights' own geometry in edition 2: that of their spacings, or the corrections' where rows or
+/// columns would be too many.
 pub fn own_heights(edition: Edition, corrections: &Geometry) -> Option<Geometry> {
     if edition == Edition::First {
         return None;
     }
-    let dense = covering(corrections, 10_000_000, 12_500_000);
+    let dense = covering(corrections, HEIGHT_SPACINGS);
     let fits = dense.rows <= 4_096 && dense.columns <= 4_096;
     Some(if fits { dense } else { *corrections })
 }
 
 /// The smallest geometry of these spacings around the same middle that covers the bounds.
-fn covering(bounds: &Geometry, latitude_spacing: u32, longitude_spacing: u32) -> Geometry {
+fn covering(bounds: &Geometry, [latitude_spacing, longitude_spacing]: [u32; 2]) -> Geometry {
     let count = |length: i64, spacing: u32| (length as u64).div_ceil(spacing.into()) as u32 + 1;
     let mut geometry = Geometry {
         latitude_spacing,

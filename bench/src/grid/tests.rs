@@ -1,7 +1,8 @@
 //! That the made-up grids are what the measurements need.
 
-use super::made_up::own_heights;
-use super::{narrow_heights, national, wide_heights, with_count, zeros, Edition, Geometry, Grid};
+use super::{
+    narrow_heights, national, own_heights, wide_heights, with_count, zeros, Edition, Geometry, Grid,
+};
 use crate::{fixes, plain, Way};
 
 const EDITIONS: [Edition; 2] = [Edition::First, Edition::Second];

@@ -1,6 +1,13 @@
 //! Floats of 32 and 64 bits as the exact numbers that they stand for, and their nearest whole
 //! numbers at a scale.
 
+/// What a value is multiplied by: over / under, both below 2^40.
+#[derive(Clone, Copy)]
+pub struct Scale {
+    pub over: i64,
+    pub under: i64,
+}
+
 /// A finite float: mantissa × 2^exponent.
 #[derive(Clone, Copy)]
 pub struct Exact {
@@ -39,8 +46,9 @@ impl Exact {
     }
 
     /// The nearest whole number to the value times the scale, halves upward: the product plus one
-    /// half, rounded down. None where it is past the limit. Scale and limit are below 2^40.
-    pub fn nearest(self, scale: i64, limit: i64) -> Option<i64> {
+    /// half, rounded down. None where it is past the limit, which is below 2^40.
+    #[inline]
+    pub fn nearest(self, scale: Scale, limit: i64) -> Option<i64> {
         // Then the value is at least 2^23 from zero, since only a full mantissa has such an
         // exponent: past every limit that is asked here.
         if self.exponent >= 0 {
@@ -48,9 +56,13 @@ impl Exact {
         }
         // The product is below 2^93, so it is nearest to 0 from 2^100 on, however much further.
         let shift = (-self.exponent).min(100);
-        let product = i128::from(self.mantissa) * i128::from(scale);
-        let whole = ((product >> (shift - 1)) + 1) >> 1;
-        let limit = i128::from(limit);
-        (-limit..=limit).contains(&whole).then_some(whole as i64)
+        let product = i128::from(self.mantissa) * i128::from(scale.over);
+        // The exact value plus one half is (product / 2^(shift - 1) + under) / (2 × under). Rounding
+        // the first quotient down does not change the second one rounded down.
+        let dividend = (product >> (shift - 1)) + i128::from(scale.under);
+        let divisor = 2 * scale.under;
+        let passing = i128::from(-limit * divisor)..i128::from((limit + 1) * divisor);
+        let whole = || (dividend as i64).div_euclid(divisor);
+        passing.contains(&dividend).then(whole)
     }
 }

@@ -1,9 +1,11 @@
 //! Document 01's figures for its grid G, figures of edition 2 on G's corrections, and figures of
-//! VDatum files.
+//! VDatum and NTv2 files.
 
 mod edition_1;
 mod edition_2;
 mod edition_2_images;
+mod ntv2;
+mod ntv2_files;
 mod vdatum;
 mod vdatum_files;
 

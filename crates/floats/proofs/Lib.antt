@@ -5,3 +5,4 @@ pub mod Widths
 pub mod Answers
 pub mod Ordered
 pub mod Scales
+pub mod Turning

@@ -1,14 +1,14 @@
 -- Floats of one sign stand in the order of their bits. So where one of them is the largest that is within a limit, with either sign, a
 -- float is finite and within the limit exactly where its bits without the sign are at most those (ordered-passes).
-use mathlib.Core.Bool.{Bool, true, false, cond, _&&_}
+use mathlib.Core.Bool.{Bool, true, false, not, cond, _&&_}
 use mathlib.Core.Path.{_≡_, refl, ap, _∙_}
 use Prim.Native.Nat.{ℕ, zero, suc, _+_, _-_, _*_, _%_, _^_, _≤_, _<_, max}
 use native.Mathlib.Nat.{mod-lt, mod-eq-of-lt, mul-le-mul, mul-le-mul-left, mul-le-mul-right, le-div-iff-mul-le, mul-div-le, le-trans}
 use native.Mathlib.Omega.{arith}
 use lib.Dec.{eqb, ltb, leb}
 use lib.Pow.{pow-pos, pow-add, pow-mono, shr-mono, mod-pow-add, field}
-use borrow.Author.Tests.{ltb-true, ltb-false, leb-true, leb-false, lt-ltb, le-leb, lt-leb, ne-eqb}
-use Rattle.integers.specs.Booleans.{and-both, and-false}
+use borrow.Author.Tests.{ltb-true, ltb-false, leb-true, leb-false, lt-ltb, le-leb, lt-leb, ne-eqb, not-true}
+use Rattle.integers.specs.Booleans.{and-left, and-right, and-both, and-false, all-three}
 use Rattle.rules.specs.declared.FloatFormat.{FloatFormat}
 use Rattle.rules.specs.declared.Scale.{Scale}
 use Rattle.rules.specs.Units.{within}
@@ -77,6 +77,36 @@ module _ (f : FloatFormat) (s : Scale) where
     pub finite-most : finite f most ≡ true
     pub within-most : (minus : Bool) → leb (sizeWith minus most) limit ≡ true
     pub beyond-next : (minus : Bool) → leb (sizeWith minus (most + 1)) limit ≡ false
+
+  -- All of that as one test, which the checker computes for a given float.
+  abbrev withBoth : (Bool → Bool) → Bool
+  withBoth t = t false && t true
+
+  unfoldable pub isLargest : (limit most : ℕ) → Bool
+  isLargest limit most =
+      (ltb 0 (s .under) && (ltb (most + 1) (2 ^ (f .exponent + f .fraction)) && finite f most))
+      && (withBoth (λ minus. leb (sizeWith minus most) limit) && withBoth (λ minus. not (leb (sizeWith minus (most + 1)) limit)))
+
+  with-each : (t : Bool → Bool) → withBoth t ≡ true → (minus : Bool) → t minus ≡ true
+  with-each t h false = and-left (t false) (t true) h
+  with-each t h true = and-right (t false) (t true) h
+
+  pub largest-computed : (limit most : ℕ) → isLargest limit most ≡ true → LargestWithin limit most
+  unfolding isLargest
+  largest-computed limit most h =
+      let float = ltb 0 (s .under) && (ltb (most + 1) (2 ^ (f .exponent + f .fraction)) && finite f most) in
+      let within : Bool → Bool = λ minus. leb (sizeWith minus most) limit in
+      let beyond : Bool → Bool = λ minus. not (leb (sizeWith minus (most + 1)) limit) in
+      let k = and-right float (withBoth within && withBoth beyond) h in
+      let t = all-three (ltb 0 (s .under)) (ltb (most + 1) (2 ^ (f .exponent + f .fraction))) (finite f most)
+      (and-left float (withBoth within && withBoth beyond) h) in
+      record {
+        under-least = ltb-true 0 (s .under) (t .0);
+        unsigned-next = ltb-true (most + 1) (2 ^ (f .exponent + f .fraction)) (t .1);
+        finite-most = t .2;
+        within-most = with-each within (and-left (withBoth within) (withBoth beyond) k);
+        beyond-next = λ minus. not-true _ (with-each beyond (and-right (withBoth within) (withBoth beyond) k) minus);
+      }
 
   module _ (u : 0 < s .under) where
     in-order : (minus : Bool) (a b : ℕ) → unsigned f a ≤ unsigned f b → sizeWith minus a ≤ sizeWith minus b

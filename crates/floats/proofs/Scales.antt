@@ -1,13 +1,9 @@
 -- The scales of notes 2 and 4 of document 02, with the limits that they are used with, meet what the code asks of a scale.
 use native.Mathlib.Omega.{arith}
-use Rattle.rules.specs.declared.Scale.{Scale}
 use Rattle.rules.specs.Units.{longitudeLimit, correctionLimit, quasiGeoidLimit}
 use Rattle.rules.specs.Vdatum.{fromDegrees, fromMetres}
+use Rattle.rules.specs.Ntv2.{fromArcseconds}
 use Rattle.floats.specs.Sizes.{Usable}
-
--- nd from arcseconds
-abbrev fromArcseconds : Scale
-fromArcseconds = record { over = 2500000; under = 9 }
 
 pub record AllUsable : Type 0 where
   pub angles : Usable fromDegrees longitudeLimit

@@ -8,6 +8,7 @@ ghost use mathlib.Core.Path.{_≡_};
 ghost use Prim.Native.Nat.{_+_, _-_, _*_, _^_, _≤_, _<_};
 ghost use Rattle.rules.specs.Floats.{binary32, binary64, exponentOf, negative, mantissa, signed};
 ghost use Rattle.floats.specs.Sizes.{roundedSize, flooredSize, Known, Usable, Power};
+ghost use Rattle.floats.specs.Turned.{Turned};
 ghost use Rattle.floats.specs.Nearest.{wholeWithin, nearestWithin};
 
 // What a float becomes: a whole number within the limit; or none, where it is not finite or beyond the limit.
@@ -46,6 +47,25 @@ pub fn nearest_f64(bits: u64, scale: Scale, limit: u64) -> Nearest
         scale,
         limit,
     )
+}
+
+// The f32 of the opposite value: the sign's bit is added, and what it carries over stands above the bits that are read.
+pub fn turned_f32(bits: u64) -> u64
+    requires { ⌜ bits < 4294967296 ⌝ }
+    ensures { λ r. ⌜ Turned binary32 bits r ⌝ }
+{
+    bits + 2147483648
+}
+
+// The f64 of the opposite value.
+pub fn turned_f64(bits: u64) -> u64
+    ensures { λ r. ⌜ Turned binary64 bits r ⌝ }
+{
+    if bits < 9223372036854775808 {
+        bits + 9223372036854775808
+    } else {
+        bits - 9223372036854775808
+    }
 }
 
 // The same of a float of any width, whose value is its mantissa / 2^(bias + fraction's bits - power). A power above bias + 20 makes at

@@ -3,6 +3,7 @@ use fixes::list_back;
 use fixes::list_out;
 use notation::read_notation;
 use notation::write_notation;
+use ntv2::corrections_from_ntv2;
 use refusals::refusal_number;
 use rules::Checked;
 use rules::FileAnswer;
@@ -17,7 +18,10 @@ ghost use Rattle.rules.specs.Answers.{statusOf, after};
 ghost use Rattle.rules.specs.Check.{gridCheck, findingsAfter};
 ghost use Rattle.rules.specs.Lists.{listOut, listBack, afterOut, afterBack};
 ghost use Rattle.rules.specs.Notation.{readParts, writeNotation, notationAfter};
-ghost use Rattle.rules.specs.Vdatum.{heightsFrom, heightsAfter, geometryAfter};
+ghost use Rattle.rules.specs.Limits.{HandedBack};
+ghost use Rattle.rules.specs.Files.{fileAnswerOf, geometryAfter};
+ghost use Rattle.rules.specs.Vdatum.{heightsFrom, heightsAfter};
+ghost use Rattle.rules.specs.Ntv2.{correctionsFrom, correctionsAfter};
 
 // The grid check: 0 with the six findings written, or the number.
 #[no_mangle]
@@ -118,7 +122,31 @@ pub extern "C" fn marker_heights_from_vdatum(
     ensures geometry { λ _. ⌜ now (geometry .exit)
         ≡ geometryAfter (heightsFrom (now (file .entry)) (length (now (nodes .entry)))) (now (geometry .entry)) ⌝ }
 {
-    match heights_from_vdatum(file, nodes) {
+    hand_back(heights_from_vdatum(file, nodes), geometry)
+}
+
+// The conversion of an NTv2 file: 0 with the correction nodes and the geometry written, or the number.
+#[no_mangle]
+pub extern "C" fn marker_corrections_from_ntv2(
+    file: &[u8],
+    nodes: &mut [u8],
+    geometry: &mut [i64; 6],
+) -> i64
+    ensures number { λ r. ⌜ r ≡ statusOf (correctionsFrom (now (file .entry)) (length (now (nodes .entry)))) ⌝ }
+    ensures nodes { λ _. ⌜ now (nodes .exit) ≡ correctionsAfter (now (file .entry)) (now (nodes .entry)) ⌝ }
+    ensures geometry { λ _. ⌜ now (geometry .exit)
+        ≡ geometryAfter (correctionsFrom (now (file .entry)) (length (now (nodes .entry)))) (now (geometry .entry)) ⌝ }
+{
+    hand_back(corrections_from_ntv2(file, nodes), geometry)
+}
+
+// What the conversion of a grid file gives: 0 with the geometry written, or the number.
+fn hand_back(answer: FileAnswer, geometry: &mut [i64; 6]) -> i64
+    requires { ⌜ HandedBack (fileAnswerOf answer) ⌝ }
+    ensures number { λ r. ⌜ r ≡ statusOf (fileAnswerOf answer) ⌝ }
+    ensures geometry { λ _. ⌜ now (geometry .exit) ≡ geometryAfter (fileAnswerOf answer) (now (geometry .entry)) ⌝ }
+{
+    match answer {
         FileAnswer::Converted(g) => {
             let latitude = g.latitude;
             let longitude = g.longitude;

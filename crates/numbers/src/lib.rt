@@ -1,12 +1,14 @@
 // Numbers as the machine holds them: the size of a signed number, the distance of two, limits, the smaller and the larger of two, the
-// little-endian numbers of an image, and the big-endian ones of a VDatum file.
+// little-endian numbers of an image, read and written, and the big-endian ones of a VDatum file.
 ghost use mathlib.Core.Bool.{_&&_};
+ghost use mathlib.Core.List.{_++_};
 ghost use mathlib.Core.Path.{_≡_};
 ghost use Prim.Native.Nat.{_+_, _≤_, _<_, min, max};
 ghost use lib.IntN.{pos, natAbs, _-ℤ_};
-ghost use lib.ListN.{length};
+ghost use lib.ListN.{length, drop};
 ghost use Rattle.rules.specs.Units.{between, within};
-ghost use Rattle.rules.specs.Image.{twosComplement, u32At, i32At, i64At};
+ghost use Rattle.rules.specs.Image.{twosComplement, u32At, u64At, i32At, i64At};
+ghost use Rattle.rules.specs.Files.{natural, bitsOf, bytesOf};
 ghost use Rattle.rules.specs.Vdatum.{bigU32At, bigU64At, bigI32At};
 
 // The distance from zero.
@@ -14,6 +16,13 @@ pub fn magnitude(z: i64) -> u64
     ensures { λ r. ⌜ r ≡ natAbs z ⌝ }
 {
     if z < 0 { (-1 - z) as u64 + 1 } else { z as u64 }
+}
+
+// The number itself, of which a negative one becomes 0.
+pub fn natural_of(z: i64) -> u64
+    ensures { λ r. ⌜ r ≡ natural z ⌝ }
+{
+    if z < 0 { 0 } else { z as u64 }
 }
 
 // How far two numbers are from each other. On one side of zero their difference fits; on both sides their distances from zero add up.
@@ -128,12 +137,41 @@ pub fn i32_at(s: &[u8], at: usize) -> i64
     signed32(u32_at(s, at))
 }
 
+// The unsigned number of eight bytes.
+pub fn u64_at(s: &[u8], at: usize) -> u64
+    requires { ⌜ at + 8 ≤ length (now s) ⌝ }
+    ensures { λ r. ⌜ r ≡ u64At (now (s .entry)) at ⌝ }
+{
+    u32_at(s, at) + 4294967296 * u32_at(s, at + 4)
+}
+
 // The signed number of eight bytes.
 pub fn i64_at(s: &[u8], at: usize) -> i64
     requires { ⌜ at + 8 ≤ length (now s) ⌝ }
     ensures { λ r. ⌜ r ≡ i64At (now (s .entry)) at ⌝ }
 {
-    signed64(u32_at(s, at) + 4294967296 * u32_at(s, at + 4))
+    signed64(u64_at(s, at))
+}
+
+// Writes a number's four bytes at the front of the part that is lent; what follows them is unchanged.
+pub fn write_i32(rest: &mut [u8], z: i64)
+    requires { ⌜ (4 ≤ length (now rest)) × (natAbs z < 2147483648) ⌝ }
+    ensures { λ _. ⌜ now (rest .exit) ≡ bytesOf z ++ drop 4 (now (rest .entry)) ⌝ }
+{
+    let n = bits_of(z);
+    rest[0] = (n % 256) as u8;
+    rest[1] = (n / 256 % 256) as u8;
+    rest[2] = (n / 65536 % 256) as u8;
+    rest[3] = (n / 16777216 % 256) as u8;
+}
+
+// The two's complement of 32 bits.
+fn bits_of(z: i64) -> u64
+    requires { ⌜ natAbs z < 2147483648 ⌝ }
+    ensures { λ r. ⌜ r ≡ bitsOf z ⌝ }
+{
+    let size = magnitude(z);
+    if z < 0 { 4294967296 - size } else { size }
 }
 
 // The unsigned number of four bytes, the highest first.

@@ -26,5 +26,7 @@ pub fn refusal_number(r: Refusal) -> i64
         Refusal::OffHeightGrid => 15,
         Refusal::VdatumFile => 16,
         Refusal::VdatumHeight => 17,
+        Refusal::Ntv2File => 18,
+        Refusal::Ntv2Shift => 19,
     }
 }

@@ -2,6 +2,7 @@
 pub mod Examples
 pub mod HeightGrid
 pub mod VdatumFile
+pub mod Ntv2File
 pub mod Answers
 pub mod Opening
 pub mod Cells
@@ -14,3 +15,5 @@ pub mod WorkedRounding
 pub mod Evaluations
 pub mod Corners
 pub mod Lent
+pub mod Files
+pub mod Buffer

@@ -15,7 +15,9 @@ use Rattle.rules.specs.Questions.{question3, question4, boundsWithin, qu
 use Rattle.rules.specs.Check.{every}
 use Rattle.rules.specs.Floats.{binary32, binary64, finite, valueOf, nearest}
 use Rattle.rules.specs.Vdatum.{bigU64At, bigI32At, fromDegrees, fromMetres, degreesAt, question16, heightOf, heightFits, question17}
-use Rattle.rules.specs.Vdatum.{heightNodes, heightsFrom, heightsAfter, geometryAfter}
+use Rattle.rules.specs.Vdatum.{heightNodes, heightsFrom, heightsAfter}
+use Rattle.rules.specs.Files.{inSequence, geometryAfter}
+use Rattle.rules.specs.Ntv2.{fromArcseconds}
 
 -- ---- floats
 
@@ -25,10 +27,6 @@ plain = record { over = 1; under = 1 }
 
 abbrev tiny : Scale
 tiny = record { over = 2 ^ 150; under = 1 }
-
--- nd from arcseconds, a scale that is no whole number.
-abbrev fromArcseconds : Scale
-fromArcseconds = record { over = 2500000; under = 9 }
 
 abbrev f32 : Scale → ℕ → ℤ
 f32 s bits = nearest s (valueOf binary32 bits)
@@ -77,7 +75,7 @@ pub record Floats : Type 0 where
 -- ---- a file
 
 -- The lowest n bytes of a number, the highest first.
-abbrev big : ℕ → ℕ → List ℕ
+abbrev pub big : ℕ → ℕ → List ℕ
 big zero x = []
 big (suc n) x = (x / 256 ^ n % 256) ∷ big n x
 
@@ -152,7 +150,7 @@ pub record File : Type 0 where
 
 pub vdatum-file : Floats × File
 unfolding roundHalfUp valueOf nearest i32At plane every question3 question4 boundsWithin question5 questions3To5 bigU64At bigI32At degreesAt
-    question16 heightOf heightFits question17 heightNodes heightsFrom
+    question16 heightOf heightFits question17 inSequence heightNodes heightsFrom
 vdatum-file = (
   record {
     half = refl;

@@ -12,6 +12,7 @@ use Rattle.rules.specs.declared.Square.{Square}
 use Rattle.rules.specs.declared.Correction.{Correction}
 use Rattle.rules.specs.declared.Point.{Point}
 use Rattle.rules.specs.Units.{latitudeLimit, longitudeLimit, countMost, spacingMost, correctionLimit}
+use Rattle.rules.specs.Answers.{Outcome, values, number}
 use Rattle.rules.specs.Image.{farBound, rows, columns}
 
 -- What questions 3 and 4 establish of an axis.
@@ -31,6 +32,11 @@ pub record AxisPasses (limit : ℕ) (a : Axis) : Type 0 where
 pub record GeometryPasses (g : Geometry) : Type 0 where
   pub latitude : AxisPasses latitudeLimit (g .latitude)
   pub longitude : AxisPasses longitudeLimit (g .longitude)
+
+-- And of a geometry that the conversion of a grid file hands back.
+abbrev pub HandedBack : Outcome Geometry → Type 0
+HandedBack (values g) = GeometryPasses g
+HandedBack (number n) = Unit {0}
 
 -- What questions 3 to 6 establish of a plane in an image of `size` bytes: of its geometry, and that the four bytes of each value are in the
 -- image.

@@ -1,22 +1,21 @@
 -- Document 02, note 2: a VDatum .gtx file, its layout, refusals 16 and 17, and what its conversion hands back and leaves in the lent
 -- buffer.
 use mathlib.Core.Bool.{Bool, _&&_}
-use mathlib.Core.List.{List, [], _∷_, _++_}
-use Prim.Native.Nat.{ℕ, zero, suc, _+_, _-_, _*_, _/_, _%_}
+use mathlib.Core.List.{List}
+use Prim.Native.Nat.{ℕ, _+_, _*_}
 use lib.Dec.{leb, eqb}
-use lib.IntN.{ℤ, pos, negsuc}
+use lib.IntN.{ℤ}
 use lib.ListN.{length, getD}
 use Rattle.rules.specs.declared.Axis.{Axis}
 use Rattle.rules.specs.declared.Geometry.{Geometry}
 use Rattle.rules.specs.declared.Scale.{Scale}
-use Rattle.rules.specs.declared.FileAnswer.{FileAnswer}
-use Rattle.rules.specs.declared.FileAnswer.the-variants as answer
 use Rattle.rules.specs.Units.{within, quasiGeoidLimit}
-use Rattle.rules.specs.Answers.{Outcome, values, number, ask, andThen, after, numberOf}
-use Rattle.rules.specs.Image.{twosComplement, south, west, rows, columns}
+use Rattle.rules.specs.Answers.{Outcome, values, ask, andThen, after}
+use Rattle.rules.specs.Image.{twosComplement, rows, columns}
 use Rattle.rules.specs.Questions.{questions3To5}
 use Rattle.rules.specs.Check.{every}
 use Rattle.rules.specs.Floats.{binary32, binary64, finite, valueOf, nearest}
+use Rattle.rules.specs.Files.{natural, bytesOf, inSequence}
 
 -- The file's numbers are big-endian: the unsigned ones of four and of eight bytes, the highest byte first, that begin at byte `at`, and
 -- the signed one of four.
@@ -39,11 +38,6 @@ fromMetres = record { over = 10000; under = 1 }
 -- The f64 in degrees at a byte of the header, to the nearest nd.
 unfoldable pub degreesAt : List ℕ → (at : ℕ) → ℤ
 degreesAt b at = nearest fromDegrees (valueOf binary64 (bigU64At b at))
-
--- A spacing or a count as a natural number. A negative one becomes 0, which questions 4 and 3 refuse alike.
-abbrev pub natural : ℤ → ℕ
-natural (pos n) = n
-natural (negsuc n) = 0
 
 -- The header's 40 bytes: southern latitude at 0, western longitude at 8, latitude spacing at 16, longitude spacing at 24, all f64 in
 -- degrees; rows at 32, columns at 36, i32. An axis has its number of each.
@@ -87,18 +81,9 @@ heightFits b n = finite binary32 (heightBits b n) && within quasiGeoidLimit (hei
 unfoldable pub question17 : List ℕ → (nodes : ℕ) → Bool
 question17 b nodes = every nodes (heightFits b)
 
--- The four bytes of a number, as an image has them: its two's complement, the lowest byte first.
-abbrev pub bitsOf : ℤ → ℕ
-bitsOf (pos n) = n
-bitsOf (negsuc n) = 4294967295 - n
-
-abbrev pub bytesOf : ℤ → List ℕ
-bytesOf z = let n = bitsOf z in (n % 256) ∷ (n / 256 % 256) ∷ (n / 65536 % 256) ∷ (n / 16777216 % 256) ∷ []
-
 -- The height nodes of edition 2, in the same order: the first so many.
 unfoldable pub heightNodes : List ℕ → (nodes : ℕ) → List ℕ
-heightNodes b zero = []
-heightNodes b (suc n) = heightNodes b n ++ bytesOf (heightOf b n)
+heightNodes b = inSequence (λ n. bytesOf (heightOf b n))
 
 -- The conversion of a file into a buffer of `room` bytes: the geometry, or a number.
 unfoldable pub heightsFrom : List ℕ → (room : ℕ) → Outcome Geometry
@@ -110,14 +95,3 @@ heightsFrom b room =
 abbrev pub heightsAfter : List ℕ → (buffer : List ℕ) → List ℕ
 heightsAfter b buffer =
     after (andThen (heightsFrom b (length buffer)) (λ g. values (heightNodes b (rows g * columns g)))) buffer
-
--- The code's answer, in these terms.
-abbrev pub fileAnswerOf : FileAnswer → Outcome Geometry
-fileAnswerOf (answer.Converted g) = values g
-fileAnswerOf (answer.Refused r) = number (numberOf r)
-
--- What a conversion over C leaves in its lent array: the geometry in the trailer's order, or with a number what was there before.
-abbrev pub geometryAfter : Outcome Geometry → List ℤ → List ℤ
-geometryAfter (values g) before =
-    south g ∷ west g ∷ pos (g .latitude .spacing) ∷ pos (g .longitude .spacing) ∷ pos (rows g) ∷ pos (columns g) ∷ []
-geometryAfter (number n) before = before

@@ -158,7 +158,7 @@ pub struct Scale {
     pub under: u64,
 }
 
-// The refusals, in the order of their numbers, 1 to 17.
+// The refusals, in the order of their numbers, 1 to 19.
 pub enum Refusal {
     ImageLength,
     Edition,
@@ -177,6 +177,8 @@ pub enum Refusal {
     OffHeightGrid,
     VdatumFile,
     VdatumHeight,
+    Ntv2File,
+    Ntv2Shift,
 }
 
 // What opening an image answers: whether its heights stand on a separate grid, which with its trailer says where its values lie; or a
@@ -214,6 +216,12 @@ pub enum Reading {
 pub enum Writing {
     Written(Notation),
     Refused(Refusal),
+}
+
+// What reading an axis of a grid file's header answers: none, where a number of it is unfit.
+pub enum AxisRead {
+    Fit(Axis),
+    Unfit,
 }
 
 // What the conversion of a grid file answers: the geometry of the nodes that it wrote.

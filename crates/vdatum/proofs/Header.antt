@@ -1,38 +1,27 @@
 -- Refusal 16 as the code tests it: what questions 4 and 5 let pass is within 180 degrees, so a number of the header may be held to that
 -- limit before them.
-use mathlib.Core.Bool.{Bool, true, false, cond, _&&_}
+use mathlib.Core.Bool.{Bool, true, false, _&&_}
 use mathlib.Core.List.{List}
 use mathlib.Core.Path.{_≡_, refl, subst}
 use Prim.Native.Nat.{ℕ, _+_, _*_, _≤_}
 use native.Mathlib.Omega.{arith}
 use lib.Dec.{leb, eqb}
-use lib.IntN.{ℤ, pos, negsuc, natAbs}
+use lib.IntN.{natAbs}
 use lib.ListN.{length}
 use borrow.Author.Tests.{le-leb, eqb-true}
-use Rattle.integers.specs.Booleans.{and-left, and-right, all-three}
-use Rattle.rules.specs.declared.Axis.{Axis}
+use Rattle.integers.specs.Booleans.{and-left, and-right}
 use Rattle.rules.specs.declared.Geometry.{Geometry}
 use Rattle.rules.specs.Units.{within, latitudeLimit, longitudeLimit, spacingMost}
 use Rattle.rules.specs.Answers.{values}
 use Rattle.rules.specs.Image.{rows, columns}
-use Rattle.rules.specs.Questions.{question3, question4, question5, questions3To5}
+use Rattle.rules.specs.Questions.{questions3To5}
 use Rattle.rules.specs.Limits.{AxisPasses, GeometryPasses}
-use Rattle.rules.specs.Vdatum.{degreesAt, natural, headerAxis, headerOf, axisFinite, heightBytes, question16, question17, heightsFrom}
+use Rattle.rules.specs.Vdatum.{degreesAt, headerAxis, headerOf, axisFinite, heightBytes, question16, question17, heightsFrom}
 use Rattle.rules.specs.Floats.{binary64, finite}
 use Rattle.rules.specs.Vdatum.{bigU64At}
 use Rattle.rules.proofs.Answers.{asked}
-use Rattle.rules.proofs.Opening.{geometry-passes}
-use Rattle.vdatum.specs.declared.AxisRead.the-variants as axis
+use Rattle.rules.proofs.Files.{natural-most, questions-establish, both-axes}
 use Rattle.vdatum.specs.Reading.{degreesFit}
-
--- A count that questions 3 and 4 let pass is the number itself.
-natural-most : (z : ℤ) (limit : ℕ) → 1 ≤ natural z → natural z ≤ limit → natAbs z ≤ limit
-natural-most (pos n) limit h k = k
-natural-most (negsuc n) limit h k = absurd (omega arith)
-
-passes : (g : Geometry) → questions3To5 g ≡ true → GeometryPasses g
-unfolding questions3To5
-passes g h = let a = all-three (question3 g) (question4 g) (question5 g) h in geometry-passes g (a .0) (a .1) (a .2)
 
 -- Both numbers of an axis are finite and within 180 degrees.
 abbrev pub axisFits : List ℕ → (start spacing : ℕ) → Bool
@@ -53,25 +42,6 @@ axis-fits b start spacing count limit l a =
     (le-leb (natAbs (degreesAt b start)) longitudeLimit (omega (arith, a .start-within)))
     (le-leb (natAbs (degreesAt b spacing)) longitudeLimit (omega (arith, most)))
 
--- What an axis that was read tells.
-pub axis-fit : (t : Bool) (a c : Axis) → cond t (axis.Fit a) axis.Unfit ≡ axis.Fit c → (t ≡ true) × (a ≡ c)
-axis-fit true a c e = (refl, cc)
-axis-fit false a c e = let n : _≡_ {A = ℕ} 0 1 = cc in absurd (omega arith)
-
-pub axis-unfit : (t : Bool) (a : Axis) → cond t (axis.Fit a) axis.Unfit ≡ axis.Unfit → t ≡ false
-axis-unfit true a e = let n : _≡_ {A = ℕ} 0 1 = cc in absurd (omega arith)
-axis-unfit false a e = refl
-
--- Tests before one that fails do not count.
-none : (a c : Bool) → (a && (c && false)) ≡ false
-none true true = refl
-none true false = refl
-none false c = refl
-
-in-a-row : (l a a' c c' q n : Bool) → (q ≡ true → (a ≡ a') × (c ≡ c')) → (l && (a && (c && (q && n)))) ≡ (l && (a' && (c' && (q && n))))
-in-a-row l a a' c c' true n h = rw (h refl .0, h refl .1)
-in-a-row l a a' c c' false n h = rw (none a c, none a' c')
-
 -- The code's tests are refusal 16's.
 pub header-tested : (b : List ℕ) (room : ℕ) → let g = headerOf b in
     question16 b room
@@ -83,9 +53,9 @@ pub header-tested : (b : List ℕ) (room : ℕ) → let g = headerOf b in
 unfolding question16
 header-tested b room =
     let g = headerOf b in
-    in-a-row (leb 40 (length b)) (axisFinite b 0 16) (axisFits b 0 16) (axisFinite b 8 24) (axisFits b 8 24) (questions3To5 g) _
+    both-axes (leb 40 (length b)) (axisFinite b 0 16) (axisFits b 0 16) (axisFinite b 8 24) (axisFits b 8 24) (questions3To5 g) _
     (λ h.
-    let p = passes g h in
+    let p = questions-establish g h in
     (axis-fits b 0 16 32 latitudeLimit (omega arith) (p .latitude), axis-fits b 8 24 36 longitudeLimit (omega arith) (p .longitude)))
 
 -- Its last tests, of the geometry and of both lengths.
@@ -122,4 +92,4 @@ converted-passes b room g h =
     let q = asked (question16 b room) 16 _ g h in
     let n = asked (question17 b (rows (headerOf b) * columns (headerOf b))) 17 _ g (q .1) in
     let e : headerOf b ≡ g = cc in
-    subst GeometryPasses e (passes (headerOf b) (last-tests b room (q .0) .0))
+    subst GeometryPasses e (questions-establish (headerOf b) (last-tests b room (q .0) .0))

@@ -2,13 +2,13 @@
 use mathlib.Core.Bool.{Bool, cond, _&&_}
 use mathlib.Core.List.{List}
 use Prim.Native.Nat.{ℕ}
+use Rattle.rules.specs.declared.AxisRead.{AxisRead}
+use Rattle.rules.specs.declared.AxisRead.the-variants as axis
 use Rattle.rules.specs.Units.{within, longitudeLimit}
 use Rattle.rules.specs.Floats.{binary64, finite}
 use Rattle.rules.specs.Vdatum.{bigU64At, degreesAt, headerAxis, heightOf, heightFits}
 use Rattle.floats.specs.declared.Nearest.{Nearest}
 use Rattle.floats.specs.declared.Nearest.the-variants as nearest
-use Rattle.vdatum.specs.declared.AxisRead.{AxisRead}
-use Rattle.vdatum.specs.declared.AxisRead.the-variants as axis
 
 -- A number of the header that is finite and within 180 degrees of zero.
 unfoldable pub degreesFit : List ℕ → (at : ℕ) → Bool

@@ -6,8 +6,10 @@ use geometry::questions_pass;
 use numbers::big_i32_at;
 use numbers::big_u32_at;
 use numbers::big_u64_at;
-use numbers::magnitude;
+use numbers::natural_of;
+use numbers::write_i32;
 use rules::Axis;
+use rules::AxisRead;
 use rules::FileAnswer;
 use rules::Geometry;
 use rules::LONGITUDE_LIMIT;
@@ -15,27 +17,21 @@ use rules::QUASI_GEOID_LIMIT;
 use rules::Refusal;
 use rules::Scale;
 ghost use mathlib.Core.Bool.{true, _&&_};
-ghost use mathlib.Core.List.{_++_};
 ghost use mathlib.Core.Path.{_≡_};
 ghost use Prim.Native.Nat.{_+_, _*_, _/_, _≤_};
 ghost use lib.Dec.{eqb};
 ghost use lib.IntN.{natAbs};
-ghost use lib.ListN.{length, drop};
+ghost use lib.ListN.{length};
 ghost use Rattle.rules.specs.Units.{countMost, quasiGeoidLimit};
 ghost use Rattle.rules.specs.Answers.{ask, values};
 ghost use Rattle.rules.specs.Image.{rows, columns};
-ghost use Rattle.rules.specs.Vdatum.{natural, headerOf, heightBytes, heightOf, heightFits, question16, question17, bitsOf, bytesOf};
-ghost use Rattle.rules.specs.Vdatum.{heightNodes, heightsFrom, heightsAfter, fileAnswerOf};
+ghost use Rattle.rules.specs.Files.{fileAnswerOf};
+ghost use Rattle.rules.specs.Vdatum.{headerOf, heightBytes, heightOf, heightFits, question16, question17, heightNodes, heightsFrom};
+ghost use Rattle.rules.specs.Vdatum.{heightsAfter};
 ghost use Rattle.vdatum.specs.Reading.{degreesRead, axisRead, heightRead};
 
 // The bits of the largest f32 that rounds to a height within the limit: 100.0000457… m.
 const HIGHEST_BITS: u64 = 0x42C80006;
-
-// What reading an axis of the header answers: none, where a number of it is not finite or beyond 180 degrees.
-enum AxisRead {
-    Fit(Axis),
-    Unfit,
-}
 
 // The conversion of any file into any buffer: the header and both lengths, then every node, and only then is the buffer written.
 pub fn heights_from_vdatum(file: &[u8], nodes: &mut [u8]) -> FileAnswer
@@ -124,13 +120,6 @@ fn read_degrees(file: &[u8], at: usize) -> Nearest
     nearest_f64(big_u64_at(file, at), degrees, LONGITUDE_LIMIT)
 }
 
-// A negative number becomes 0.
-fn natural_of(z: i64) -> u64
-    ensures { λ r. ⌜ r ≡ natural z ⌝ }
-{
-    if z < 0 { 0 } else { z as u64 }
-}
-
 // Refusal 17, of so many nodes.
 fn all_heights_fit(file: &[u8], nodes: usize) -> bool
     requires { ⌜ 40 + 4 * nodes ≤ length (now file) ⌝ }
@@ -188,28 +177,7 @@ fn write_heights(file: &[u8], nodes: &mut [u8])
     while n < count {
         let height = fit_height(file, n);
         let to = 4 * n;
-        write_height(&mut nodes[to..], height);
+        write_i32(&mut nodes[to..], height);
         n += 1;
     }
-}
-
-// Writes a height's four bytes at the front of the part that is lent; what follows them is unchanged.
-fn write_height(rest: &mut [u8], z: i64)
-    requires { ⌜ (4 ≤ length (now rest)) × (natAbs z ≤ quasiGeoidLimit) ⌝ }
-    ensures { λ _. ⌜ now (rest .exit) ≡ bytesOf z ++ drop 4 (now (rest .entry)) ⌝ }
-{
-    let n = bits_of(z);
-    rest[0] = (n % 256) as u8;
-    rest[1] = (n / 256 % 256) as u8;
-    rest[2] = (n / 65536 % 256) as u8;
-    rest[3] = (n / 16777216 % 256) as u8;
-}
-
-// The two's complement of 32 bits.
-fn bits_of(z: i64) -> u64
-    requires { ⌜ natAbs z ≤ quasiGeoidLimit ⌝ }
-    ensures { λ r. ⌜ r ≡ bitsOf z ⌝ }
-{
-    let size = magnitude(z);
-    if z < 0 { 4294967296 - size } else { size }
 }

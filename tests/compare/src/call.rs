@@ -1,7 +1,8 @@
 //! One call, how a converter performs it over lent memory, and what comes of it.
 
 use crate::lent::Lent;
-use crate::{Converter, Way};
+use crate::random::Random;
+use crate::{Converter, File, Way};
 use reference::{Axis, Notation, Number};
 
 /// What a list call is given.
@@ -13,13 +14,6 @@ pub struct List {
     pub answers_length: usize,
 }
 
-/// What the conversion of a VDatum file is given.
-#[derive(Clone, Debug, PartialEq, Eq)]
-pub struct File {
-    pub bytes: Vec<u8>,
-    pub buffer_length: usize,
-}
-
 /// A call with all that it is given.
 #[derive(Clone, Debug, PartialEq, Eq)]
 pub enum Call {
@@ -27,7 +21,7 @@ pub enum Call {
     List(List),
     ReadNotation { axis: Axis, notation: Notation },
     WriteNotation { axis: Axis, nd: i64 },
-    HeightsFromVdatum(File),
+    ConvertFile(File),
 }
 
 /// What a call did: its number, what the memory lent for its values and for nodes holds
@@ -51,7 +45,16 @@ impl Call {
         match self {
             Call::GridCheck { image } | Call::List(List { image, .. }) => Some(image),
             Call::ReadNotation { .. } | Call::WriteNotation { .. } => None,
-            Call::HeightsFromVdatum(_) => None,
+            Call::ConvertFile(_) => None,
+        }
+    }
+
+    /// A call to which the answer is the same, other bytes standing where the given one has some
+    /// that are not read.
+    pub fn with_other_unread_bytes(&self, random: &mut Random) -> Option<Call> {
+        match self {
+            Call::ConvertFile(file) => file.with_other_unread_bytes(random).map(Call::ConvertFile),
+            _ => None,
         }
     }
 
@@ -67,7 +70,7 @@ impl Call {
                 outcome(number, &nd, true)
             }
             Call::WriteNotation { axis, nd } => perform_writing(converter, *axis, *nd),
-            Call::HeightsFromVdatum(file) => perform_file(converter, file, shift),
+            Call::ConvertFile(file) => perform_file(converter, file, shift),
         }
     }
 }
@@ -110,7 +113,7 @@ fn perform_file(converter: &dyn Converter, file: &File, shift: usize) -> Outcome
     let mut nodes = Lent::new(&marks, 7 - shift, BYTE_GUARD);
     let mut geometry = unwritten(6);
     let geometry_part = geometry.part().try_into().expect("six numbers");
-    let number = converter.heights_from_vdatum(bytes.part(), nodes.part(), geometry_part);
+    let number = converter.convert_file(file.format, bytes.part(), nodes.part(), geometry_part);
     let rest_unchanged = bytes.still_holds(&file.bytes) && nodes.guards_hold();
     Outcome {
         nodes: nodes.values().to_vec(),
@@ -133,7 +136,7 @@ pub fn mark(index: usize) -> i64 {
 }
 
 /// What stands at an index of the buffer for nodes before the call: neither 0 nor 255, the most
-/// frequent bytes of heights, and not what stands beside it.
+/// frequent bytes of nodes, and not what stands beside it.
 pub fn byte_mark(index: usize) -> u8 {
     0x80 + (index % 64) as u8
 }

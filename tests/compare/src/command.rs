@@ -1,10 +1,10 @@
 //! The command line of the program.
 
-use crate::{Case, Stream};
+use crate::{Case, Format, Stream};
 
 pub const USAGE: &str =
-    "usage: compare [--edition 1|2 | --files] [--seed N] [--count N] [--progress]
-       compare [--edition 1|2 | --files] --replay SEED:INDEX";
+    "usage: compare [--edition 1|2 | --files vdatum|ntv2] [--seed N] [--count N] [--progress]
+       compare [--edition 1|2 | --files vdatum|ntv2] --replay SEED:INDEX";
 
 /// What the program is asked to do.
 #[derive(Clone, Debug, PartialEq, Eq)]
@@ -27,7 +27,7 @@ pub fn parse(mut words: impl Iterator<Item = String>) -> Option<Command> {
     while let Some(word) = words.next() {
         match word.as_str() {
             "--edition" => streams = vec![Stream::of_edition(words.next()?.parse().ok()?)?],
-            "--files" => streams = vec![Stream::Files],
+            "--files" => streams = vec![Stream::Files(Format::named(&words.next()?)?)],
             "--seed" => seed = words.next()?.parse().ok()?,
             "--count" => count = words.next()?.parse().ok()?,
             "--progress" => progress = true,
@@ -53,7 +53,10 @@ pub fn parse(mut words: impl Iterator<Item = String>) -> Option<Command> {
 
 #[cfg(test)]
 mod tests {
-    use super::{parse, Case, Command, Stream};
+    use super::{parse, Case, Command, Format, Stream};
+
+    const VDATUM: Stream = Stream::Files(Format::Vdatum);
+    const NTV2: Stream = Stream::Files(Format::Ntv2);
 
     fn parsed(line: &str) -> Option<Command> {
         parse(line.split_whitespace().map(String::from))
@@ -69,14 +72,15 @@ mod tests {
                 progress,
             })
         };
-        let all = [Stream::EditionOne, Stream::EditionTwo, Stream::Files];
+        let all = [Stream::EditionOne, Stream::EditionTwo, VDATUM, NTV2];
         assert_eq!(parsed(""), run(&all, 1, 20_000, false));
         let line = "--count 7 --progress --seed 3";
         assert_eq!(parsed(line), run(&all, 3, 7, true));
         let second = run(&[Stream::EditionTwo], 1, 7, false);
         assert_eq!(parsed("--edition 2 --count 7"), second);
-        let files = run(&[Stream::Files], 1, 7, false);
-        assert_eq!(parsed("--files --count 7"), files);
+        let files = |format| run(&[format], 1, 7, false);
+        assert_eq!(parsed("--files vdatum --count 7"), files(VDATUM));
+        assert_eq!(parsed("--files ntv2 --count 7"), files(NTV2));
     }
 
     #[test]
@@ -91,7 +95,7 @@ mod tests {
         assert_eq!(parsed("--replay 3:41"), replay(Stream::EditionOne));
         let second = "--edition 2 --replay 3:41";
         assert_eq!(parsed(second), replay(Stream::EditionTwo));
-        assert_eq!(parsed("--files --replay 3:41"), replay(Stream::Files));
+        assert_eq!(parsed("--files ntv2 --replay 3:41"), replay(NTV2));
     }
 
     #[test]
@@ -100,6 +104,8 @@ mod tests {
             "--count",
             "--count x",
             "--edition 3",
+            "--files",
+            "--files gtx",
             "--replay 3",
             "--replay 3:x",
             "more",

@@ -1,6 +1,6 @@
 //! The comparison itself: a converter beside the reference, call by call.
 
-use crate::{Call, Converter, Coverage, Outcome, Reference, Stream};
+use crate::{Call, Converter, Coverage, Outcome, Random, Reference, Stream};
 
 /// A case: a call of a stream, by its seed and index.
 #[derive(Clone, Copy, Debug, PartialEq, Eq)]
@@ -44,7 +44,8 @@ pub fn compare(
     Ok(coverage)
 }
 
-/// Compares one case. Its call with the outcome, or the difference.
+/// Compares one case. Its call with the outcome, or the difference. A call with bytes that are not
+/// read is made again with others in their place.
 pub fn compare_case(
     tested: &dyn Converter,
     case: Case,
@@ -52,14 +53,18 @@ pub fn compare_case(
     let call = case.stream.call(case.seed, case.index);
     let shift = (case.index % 8) as usize;
     let expected = call.perform(&Reference, shift);
-    let found = call.perform(tested, shift);
-    if expected == found {
-        return Ok((call, found));
+    let mut random = Random::for_case(case.seed, case.index);
+    let again = call.with_other_unread_bytes(&mut random);
+    for call in [&call].into_iter().chain(&again) {
+        let found = call.perform(tested, shift);
+        if expected != found {
+            return Err(Box::new(Difference {
+                case,
+                call: call.clone(),
+                expected,
+                found,
+            }));
+        }
     }
-    Err(Box::new(Difference {
-        case,
-        call,
-        expected,
-        found,
-    }))
+    Ok((call, expected))
 }

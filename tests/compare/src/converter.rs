@@ -1,9 +1,9 @@
 //! What is compared: any implementation of the papers' calls, and the reference as one.
 
-use crate::Way;
+use crate::{Format, Way};
 use reference::{Axis, Geometry, Notation, Number};
 
-/// The six calls. Each returns the papers' number, 0 for none, and leaves what it was lent
+/// The calls. Each returns the papers' number, 0 for none, and leaves what it was lent
 /// unchanged unless the call gives values.
 ///
 /// Image, fixes and file are only read by a right converter. They are handed over as changeable so
@@ -19,8 +19,9 @@ pub trait Converter {
     fn write_notation(&self, axis: Axis, nd: i64, notation: &mut [u64; 4]) -> Number;
 
     /// Writes south, west, latitude spacing, longitude spacing, rows and columns to the geometry.
-    fn heights_from_vdatum(
+    fn convert_file(
         &self,
+        format: Format,
         file: &mut [u8],
         nodes: &mut [u8],
         geometry: &mut [i64; 6],
@@ -55,16 +56,17 @@ impl Converter for Reference {
         number_after(written, |value| *notation = fields(value))
     }
 
-    fn heights_from_vdatum(
+    fn convert_file(
         &self,
+        format: Format,
         file: &mut [u8],
         nodes: &mut [u8],
         geometry: &mut [i64; 6],
     ) -> Number {
-        let converted = reference::heights_from_vdatum(file, nodes.len());
-        number_after(converted, |heights| {
-            nodes.copy_from_slice(&heights.nodes);
-            *geometry = geometry_numbers(&heights.geometry);
+        let converted = format.convert(file, nodes.len());
+        number_after(converted, |converted| {
+            nodes.copy_from_slice(&converted.nodes);
+            *geometry = geometry_numbers(&converted.geometry);
         })
     }
 }

@@ -18,7 +18,7 @@ pub struct Coverage {
     pub fixes: u64,
     /// How often each number came, of calls and of fixes in lists. At 0: calls and fixes that
     /// gave values.
-    pub numbers: [u64; 18],
+    pub numbers: [u64; 20],
     /// How often the way out answered with each count, 1 to 5. At 0: never.
     pub counts: [u64; 6],
     /// How often each cause was the only one to refuse a file.
@@ -28,14 +28,18 @@ pub struct Coverage {
 impl Coverage {
     /// Nothing met yet.
     pub fn of(stream: Stream) -> Coverage {
+        let causes = match stream {
+            Stream::Files(format) => Cause::all(format),
+            Stream::EditionOne | Stream::EditionTwo => Vec::new(),
+        };
         Coverage {
             stream,
             calls: 0,
             others: 0,
             fixes: 0,
-            numbers: [0; 18],
+            numbers: [0; 20],
             counts: [0; 6],
-            only_causes: Cause::all().into_iter().map(|cause| (cause, 0)).collect(),
+            only_causes: causes.into_iter().map(|cause| (cause, 0)).collect(),
         }
     }
 
@@ -49,7 +53,7 @@ impl Coverage {
         self.numbers[outcome.number as usize] += 1;
         match call {
             Call::List(list) if outcome.number == 0 => self.add_answers(list.way, outcome),
-            Call::HeightsFromVdatum(file) => {
+            Call::ConvertFile(file) => {
                 if let [only] = causes(file)[..] {
                     self.add_only_cause(only);
                 }
@@ -79,7 +83,7 @@ impl Coverage {
     fn wanted(&self) -> Vec<(String, u64)> {
         let numbers = self.stream.numbers().into_iter();
         let numbers = numbers.map(|it| (format!("number {it}"), self.numbers[it as usize]));
-        if self.stream == Stream::Files {
+        if let Stream::Files(_) = self.stream {
             let causes = self.only_causes.iter();
             let causes = causes.map(|(cause, times)| (format!("only cause {cause:?}"), *times));
             return numbers.chain(causes).collect();
@@ -102,7 +106,7 @@ impl fmt::Display for Coverage {
     fn fmt(&self, to: &mut fmt::Formatter) -> fmt::Result {
         let (stream, calls, others) = (self.stream, self.calls, self.others);
         writeln!(to, "{stream}: {calls} calls, {others} others")?;
-        if stream != Stream::Files {
+        if Stream::EDITIONS.contains(&stream) {
             writeln!(to, "{} fixes in lists", self.fixes)?;
         }
         for (words, times) in self.wanted() {

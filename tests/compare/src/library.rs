@@ -1,8 +1,9 @@
 //! The built library libmarker.a as a converter, through its C interface.
 
-use crate::{Converter, Way};
+use crate::{Converter, Format, Way};
 use binding::{
-    marker_grid_check, marker_heights_from_vdatum, marker_read_notation, marker_write_notation,
+    marker_corrections_from_ntv2, marker_grid_check, marker_heights_from_vdatum,
+    marker_read_notation, marker_write_notation,
 };
 use reference::{Axis, Notation, Number};
 
@@ -39,14 +40,19 @@ impl Converter for Library {
         unsafe { marker_write_notation(axis == Axis::Longitude, nd, notation.as_mut_ptr()) }
     }
 
-    fn heights_from_vdatum(
+    fn convert_file(
         &self,
+        format: Format,
         file: &mut [u8],
         nodes: &mut [u8],
         geometry: &mut [i64; 6],
     ) -> Number {
+        let call = match format {
+            Format::Vdatum => marker_heights_from_vdatum,
+            Format::Ntv2 => marker_corrections_from_ntv2,
+        };
         unsafe {
-            marker_heights_from_vdatum(
+            call(
                 file.as_mut_ptr(),
                 file.len(),
                 nodes.as_mut_ptr(),

@@ -26,7 +26,7 @@ impl Display for Call {
             }
             Call::ReadNotation { axis, notation } => writeln!(to, "read {axis:?} {notation:?}"),
             Call::WriteNotation { axis, nd } => writeln!(to, "write {axis:?} {nd}"),
-            Call::HeightsFromVdatum(file) => show_file(to, file),
+            Call::ConvertFile(file) => show_file(to, file),
         }
     }
 }
@@ -59,13 +59,17 @@ fn hexadecimal(bytes: &[u8]) -> String {
     words.join(" ")
 }
 
-/// The header's four floats, its counts, and the nodes, four to a line.
+/// The headers and the nodes, 16 bytes to a line.
 fn show_file(to: &mut Formatter, file: &File) -> fmt::Result {
     let (length, buffer) = (file.bytes.len(), file.buffer_length);
-    writeln!(to, "file of {length} bytes, buffer of {buffer} bytes")?;
+    let format = file.format;
+    writeln!(
+        to,
+        "{format} file of {length} bytes, buffer of {buffer} bytes"
+    )?;
     let (shown, rest) = file.bytes.split_at(length.min(SHOWN_BYTES));
-    let (header, nodes) = shown.split_at(shown.len().min(40));
-    for line in header.chunks(8).chain(nodes.chunks(16)) {
+    let (headers, nodes) = shown.split_at(shown.len().min(format.layout().headers));
+    for line in headers.chunks(16).chain(nodes.chunks(16)) {
         writeln!(to, "  {}", hexadecimal(line))?;
     }
     if !rest.is_empty() {
@@ -87,7 +91,8 @@ fn show_rows(to: &mut Formatter, name: &str, numbers: &[i64], width: usize) -> f
 
 impl Outcome {
     /// What stands in the memory lent for values, five numbers to a row, and a word for each
-    /// number that the call left alone; then what stands in the buffer for nodes, a node to a row.
+    /// number that the call left alone; then what stands in the buffer for nodes, four bytes to a
+    /// row.
     pub fn rows(&self) -> impl Iterator<Item = String> + '_ {
         let words = self.written.iter().enumerate().map(|(index, number)| {
             if *number == mark(index) {

@@ -1,6 +1,6 @@
 //! The streams of made-up calls.
 
-use crate::{cases, Call};
+use crate::{cases, Call, Format};
 use reference::{Number, Trailer};
 use std::fmt;
 
@@ -11,12 +11,17 @@ pub enum Stream {
     EditionOne,
     /// Images of edition 2.
     EditionTwo,
-    /// VDatum files.
-    Files,
+    /// Files of a format.
+    Files(Format),
 }
 
 impl Stream {
-    pub const ALL: [Stream; 3] = [Stream::EditionOne, Stream::EditionTwo, Stream::Files];
+    pub const ALL: [Stream; 4] = [
+        Stream::EditionOne,
+        Stream::EditionTwo,
+        Stream::Files(Format::Vdatum),
+        Stream::Files(Format::Ntv2),
+    ];
     /// The streams over images.
     pub const EDITIONS: [Stream; 2] = [Stream::EditionOne, Stream::EditionTwo];
 
@@ -34,7 +39,7 @@ impl Stream {
         match self {
             Stream::EditionOne => cases::call(seed, index),
             Stream::EditionTwo => cases::two_grids::call(seed, index),
-            Stream::Files => cases::files::call(seed, index),
+            Stream::Files(format) => cases::files::call(format, seed, index),
         }
     }
 
@@ -42,7 +47,7 @@ impl Stream {
     /// image that says edition 2.
     pub fn counts(self, call: &Call) -> bool {
         match self {
-            Stream::EditionOne | Stream::Files => true,
+            Stream::EditionOne | Stream::Files(_) => true,
             Stream::EditionTwo => {
                 let trailer = call.image().and_then(Trailer::read);
                 trailer.is_some_and(|it| it.edition == 2)
@@ -56,17 +61,20 @@ impl Stream {
         match self {
             Stream::EditionOne => (0..=14).collect(),
             Stream::EditionTwo => (0..=12).chain(14..=15).collect(),
-            Stream::Files => vec![0, 16, 17],
+            Stream::Files(format) => {
+                let refusals = format.layout().refusals;
+                [0].into_iter().chain(refusals).collect()
+            }
         }
     }
 }
 
 impl fmt::Display for Stream {
     fn fmt(&self, to: &mut fmt::Formatter) -> fmt::Result {
-        to.write_str(match self {
-            Stream::EditionOne => "edition 1",
-            Stream::EditionTwo => "edition 2",
-            Stream::Files => "files",
-        })
+        match self {
+            Stream::EditionOne => to.write_str("edition 1"),
+            Stream::EditionTwo => to.write_str("edition 2"),
+            Stream::Files(format) => write!(to, "files {format}"),
+        }
     }
 }

@@ -45,7 +45,7 @@ impl Digest {
                 notation.letter.into(),
             ]),
             Call::WriteNotation { axis, nd } => self.add_numbers(&[longitude(axis), *nd]),
-            Call::HeightsFromVdatum(file) => panic!("{} bytes of a file", file.bytes.len()),
+            Call::ConvertFile(file) => panic!("{} bytes of a file", file.bytes.len()),
         }
     }
 

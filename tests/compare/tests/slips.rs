@@ -3,21 +3,19 @@
 
 mod slipped;
 
-use compare::{compare, Cause, Difference, Stream};
+use compare::{compare, Cause, Difference, Format, Stream};
 use slipped::{FileSlip, Slip, Slipped, TwoGridSlip};
 
 const SEED: u64 = 20_260_101;
 const FEW_THOUSAND: u64 = 4_000;
+const VDATUM: Stream = Stream::Files(Format::Vdatum);
+const NTV2: Stream = Stream::Files(Format::Ntv2);
 
-/// The first difference of a converter with the slip, over images of edition 1 or, where only
-/// edition 2 or files show it, over these.
-fn caught(slip: Slip) -> Box<Difference> {
-    let stream = match slip {
-        Slip::TwoGrids(_) => Stream::EditionTwo,
-        Slip::Files(_) => Stream::Files,
-        _ => Stream::EditionOne,
-    };
-    caught_over(stream, slip)
+/// A converter with the slip differs over each of the streams whose calls show it.
+fn caught(slip: Slip) {
+    for stream in slip.streams() {
+        caught_over(stream, slip);
+    }
 }
 
 fn caught_over(stream: Stream, slip: Slip) -> Box<Difference> {
@@ -30,7 +28,8 @@ fn a_converter_without_a_slip_has_no_difference() {
     for (stream, slip) in [
         (Stream::EditionOne, Slip::None),
         (Stream::EditionTwo, Slip::None),
-        (Stream::Files, FileSlip::None.into()),
+        (VDATUM, FileSlip::None.into()),
+        (NTV2, FileSlip::None.into()),
     ] {
         assert!(compare(&Slipped(slip), stream, SEED, 20_000, |_| {}).is_ok());
     }
@@ -42,7 +41,8 @@ fn a_difference_is_told_with_a_case_to_replay() {
     for (stream, slip, word) in [
         (Stream::EditionOne, Slip::HeightAtTheFix, "--edition 1"),
         (Stream::EditionTwo, Slip::HeightAtTheFix, "--edition 2"),
-        (Stream::Files, north_first, "--files"),
+        (VDATUM, north_first, "--files vdatum"),
+        (NTV2, north_first, "--files ntv2"),
     ] {
         let difference = caught_over(stream, slip);
         let words = difference.to_string();
@@ -78,11 +78,14 @@ fn slips_of_either_edition_are_caught_over_edition_2() {
     }
 }
 
-/// Each cause of 16 and 17 alone is enough for the comparison to see that it is not asked.
+/// Each cause of a file's refusals alone is enough for the comparison to see that it is not asked:
+/// each of NTv2's labels, END among them, too.
 #[test]
 fn every_cause_that_is_not_asked_is_caught() {
-    for cause in Cause::all() {
-        caught(FileSlip::NotAsked(cause).into());
+    for format in Format::ALL {
+        for cause in Cause::all(format) {
+            caught_over(Stream::Files(format), FileSlip::NotAsked(cause).into());
+        }
     }
 }
 
@@ -155,22 +158,33 @@ slips_are_caught! {
     file_infinity_as_zero_is_caught: FileSlip::InfinityIsZero;
     file_f64_arithmetic_is_caught: FileSlip::DoubleArithmetic;
     file_f32_arithmetic_is_caught: FileSlip::SingleArithmetic;
-    file_little_endian_header_is_caught: FileSlip::LittleEndianHeader;
-    file_little_endian_nodes_are_caught: FileSlip::LittleEndianNodes;
+    file_headers_in_the_other_byte_order_are_caught: FileSlip::HeadersReversed;
+    file_nodes_in_the_other_byte_order_are_caught: FileSlip::NodesReversed;
     file_big_endian_buffer_is_caught: FileSlip::BigEndianBuffer;
-    file_rows_and_columns_swapped_are_caught: FileSlip::RowsAndColumnsSwapped;
     file_spacings_swapped_are_caught: FileSlip::SpacingsSwapped;
-    file_south_and_west_swapped_are_caught: FileSlip::SouthAndWestSwapped;
     file_northern_row_first_is_caught: FileSlip::NorthFirst;
-    file_nodes_written_before_all_are_asked_are_caught: FileSlip::NodesWrittenAtOnce;
-    file_geometry_written_before_17_is_caught: FileSlip::GeometryWrittenBefore17;
-    file_geometry_cleared_before_16_is_caught: FileSlip::GeometryCleared;
+    file_rows_written_before_all_are_asked_are_caught: FileSlip::RowsWrittenAtOnce;
+    file_geometry_written_before_the_nodes_is_caught: FileSlip::GeometryWrittenBeforeNodes;
+    file_geometry_cleared_before_a_refusal_is_caught: FileSlip::GeometryCleared;
     write_to_the_file_is_caught: FileSlip::FileWritten;
     longer_file_taken_is_caught: FileSlip::LongerFileTaken;
     longer_buffer_taken_is_caught: FileSlip::LongerBufferTaken;
-    heights_cut_to_the_limit_are_caught: FileSlip::HeightsCutToTheLimit;
-    height_limit_itself_refused_is_caught: FileSlip::HeightLimitRefused;
-    height_limit_before_rounding_is_caught: FileSlip::LimitBeforeRounding;
+    file_values_cut_to_the_limit_are_caught: FileSlip::ValuesCutToTheLimit;
+    file_limit_itself_refused_is_caught: FileSlip::LimitRefused;
     last_node_of_a_file_not_asked_is_caught: FileSlip::LastNodeNotAsked;
-    number_17_before_16_is_caught: FileSlip::SeventeenFirst;
+    file_nodes_asked_first_are_caught: FileSlip::NodesFirst;
+    vdatum_rows_and_columns_swapped_are_caught: FileSlip::RowsAndColumnsSwapped;
+    vdatum_south_and_west_swapped_are_caught: FileSlip::SouthAndWestSwapped;
+    vdatum_limit_before_rounding_is_caught: FileSlip::LimitBeforeRounding;
+    ntv2_sign_turned_after_rounding_is_caught: FileSlip::TurnedAfterRounding;
+    ntv2_sign_not_turned_is_caught: FileSlip::NotTurned;
+    ntv2_nodes_from_the_west_are_caught: FileSlip::NodesFromTheWest;
+    ntv2_east_and_west_swapped_are_caught: FileSlip::EastAndWestSwapped;
+    ntv2_accuracy_for_a_shift_is_caught: FileSlip::AccuracyForShift;
+    ntv2_longitude_correction_first_is_caught: FileSlip::LongitudeFirst;
+    ntv2_rows_by_the_column_spacing_are_caught: FileSlip::RowsByTheColumnSpacing;
+    ntv2_parent_read_is_caught: FileSlip::ParentRead;
+    ntv2_parent_of_none_refused_is_caught: FileSlip::NoneRefused;
+    ntv2_filling_of_labels_not_asked_is_caught: FileSlip::FillingNotAsked;
+    ntv2_counts_of_eight_bytes_are_caught: FileSlip::LongCounts;
 }

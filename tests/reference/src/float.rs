@@ -58,18 +58,20 @@ impl Exact {
     /// The value times the scale, "nearest", "halves upward": plus one half, rounded down. Nothing
     /// only where the value is 2^64 or further from zero.
     ///
-    /// The scale is positive and at most 10^9, so that the mantissa times the scale is below 2^83
-    /// in size, and all below fits 127 bits.
-    pub fn nearest(self, scale: i128) -> Option<i128> {
-        let scaled = self.mantissa * scale;
-        match self.exponent {
+    /// The scale is positive, at most 10^9 over a number below 16, so that the mantissa times its
+    /// numerator is below 2^83 in size, and all below fits 127 bits.
+    pub fn nearest(self, scale: Fraction) -> Option<i128> {
+        let (over, under) = scale.parts();
+        let scaled = self.mantissa * over;
+        let exact = match self.exponent {
             // Such a float is normal: its mantissa is at least 2^23 in size.
-            41.. => None,
-            0..=40 => Some(scaled << self.exponent),
-            -100..=-1 => Some(Fraction::new(scaled, 1 << -self.exponent).plus_half_rounded_down()),
+            41.. => return None,
+            0..=40 => Fraction::new(scaled << self.exponent, under),
+            -100..=-1 => Fraction::new(scaled, under << -self.exponent),
             // Below 2^83 / 2^101 in size, and plus one half between 0 and 1, whatever the sign.
-            _ => Some(0),
-        }
+            _ => return Some(0),
+        };
+        Some(exact.plus_half_rounded_down())
     }
 }
 
@@ -78,8 +80,13 @@ pub fn is_negative(width: Width, bits: u64) -> bool {
     bits >> (width.exponent_bits + width.fraction_bits) == 1
 }
 
+/// The float with the other sign, whose exact value is that of the given one with its sign turned.
+pub fn turned(width: Width, bits: u64) -> u64 {
+    bits ^ (1 << (width.exponent_bits + width.fraction_bits))
+}
+
 /// The nearest whole number to a float's exact value times the scale, halves upward. Nothing only
 /// where the float is not finite, or is 2^64 or further from zero.
-pub fn nearest(width: Width, bits: u64, scale: i128) -> Option<i128> {
+pub fn nearest(width: Width, bits: u64, scale: Fraction) -> Option<i128> {
     Exact::of(width, bits)?.nearest(scale)
 }

@@ -1,7 +1,7 @@
 //! Whole-number fractions: a numerator over a positive denominator, never rounded on the way.
 
 /// An exact value.
-#[derive(Clone, Copy, Debug)]
+#[derive(Clone, Copy, Debug, PartialEq, Eq)]
 pub struct Fraction {
     numerator: i128,
     denominator: i128,
@@ -9,7 +9,7 @@ pub struct Fraction {
 
 impl Fraction {
     /// The numerator divided by the denominator, which must be positive.
-    pub fn new(numerator: i128, denominator: i128) -> Self {
+    pub const fn new(numerator: i128, denominator: i128) -> Self {
         assert!(denominator > 0, "a fraction's denominator is positive");
         Fraction {
             numerator,
@@ -36,7 +36,7 @@ impl Fraction {
     }
 
     /// Numerator and denominator.
-    pub fn parts(self) -> (i128, i128) {
+    pub const fn parts(self) -> (i128, i128) {
         (self.numerator, self.denominator)
     }
 }

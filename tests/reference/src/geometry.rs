@@ -17,6 +17,25 @@ pub struct Geometry {
 }
 
 impl Geometry {
+    /// The geometry of two axes, each given by its southern or western bound, its spacing and its
+    /// count: nothing if it is outside questions 3 to 5, as is a number that a trailer could not
+    /// hold.
+    pub(crate) fn within_questions_3_to_5(
+        [south, latitude_spacing, rows]: [i128; 3],
+        [west, longitude_spacing, columns]: [i128; 3],
+    ) -> Option<Geometry> {
+        let geometry = Geometry {
+            south: i64::try_from(south).ok()?,
+            west: i64::try_from(west).ok()?,
+            latitude_spacing: u32::try_from(latitude_spacing).ok()?,
+            longitude_spacing: u32::try_from(longitude_spacing).ok()?,
+            rows: u32::try_from(rows).ok()?,
+            columns: u32::try_from(columns).ok()?,
+        };
+        let fits = geometry.counts_fit() && geometry.spacings_fit() && geometry.bounds_fit();
+        fits.then_some(geometry)
+    }
+
     /// The geometry that these bytes begin with.
     pub(crate) fn read(bytes: &[u8]) -> Geometry {
         Geometry {

@@ -1,10 +1,11 @@
-//! The independent reference: document 01, with notes 1 and 2 of document 02, said once more, over
-//! whole-number fractions.
+//! The independent reference: document 01, with notes 1, 2 and 4 of document 02, said once more,
+//! over whole-number fractions.
 //!
 //! It shares no code and no constants with `crates/`. It is meant to be read beside the papers,
 //! not to be fast. Every public function answers either its values or the papers' number.
 
 mod check;
+mod files;
 mod float;
 mod fraction;
 mod geometry;
@@ -13,6 +14,7 @@ mod image;
 mod lists;
 mod lookup;
 mod notation;
+mod ntv2;
 mod numbers;
 mod place;
 mod trailer;
@@ -20,23 +22,28 @@ mod vdatum;
 mod ways;
 
 pub use check::grid_check;
-pub use float::{is_negative, nearest, Exact, Width, DOUBLE, SINGLE};
+pub use files::{Converted, Nearest};
+pub use float::{is_negative, nearest, turned, Exact, Width, DOUBLE, SINGLE};
 pub use fraction::Fraction;
 pub use geometry::Geometry;
 pub use grid::Grid;
 pub use image::{open_image, write_image, write_two_grids, Image};
 pub use lists::{convert_list, list_back, list_out};
 pub use notation::{read_notation, write_notation, Axis, Notation};
+pub use ntv2::{
+    convert_ntv2, corrections_from_ntv2, shift_nodes, text, Record, Records, ShiftNode,
+    FROM_ARCSECONDS, LABELS,
+};
 pub use place::{Place, Point};
 pub use trailer::{Trailer, TwoGridTrailer};
 pub use vdatum::{
-    convert_file, heights_from_vdatum, node_bits, FileHeader, Heights, Nearest, METRE,
+    convert_vdatum, height_bits, heights_from_vdatum, FileHeader, FROM_DEGREES, FROM_METRES,
 };
 pub use ways::{
     fix_questions, way_back, way_out, Answer, Fix, BACK_HEIGHT_LIMIT, OUT_HEIGHT_LIMIT,
 };
 
-/// The number of a question whose answer is no, 1 to 17.
+/// The number of a question whose answer is no, 1 to 19.
 pub type Number = i64;
 
 /// "An nd is 10^-9 degree": a whole degree in nd.

@@ -1,14 +1,17 @@
 //! VDatum files: document 02's note 2.
 
-use crate::float::{nearest, Width, DOUBLE, SINGLE};
+use crate::files::{Converted, Nearest};
+use crate::float::{nearest, DOUBLE, SINGLE};
 use crate::grid::HEIGHT_LIMIT;
-use crate::{ask, within, Geometry, Number, DEGREE};
+use crate::{ask, within, Fraction, Geometry, Number, DEGREE};
 
 const HEADER_BYTES: usize = 40;
 const NODE_BYTES: i128 = 4;
 
-/// "A unit of height is 0.0001 m": a metre in units.
-pub const METRE: i128 = 10_000;
+/// "An nd is 10^-9 degree".
+pub const FROM_DEGREES: Fraction = Fraction::new(DEGREE, 1);
+/// "A unit of height is 0.0001 m".
+pub const FROM_METRES: Fraction = Fraction::new(10_000, 1);
 
 /// "Southern latitude, western longitude, latitude spacing, longitude spacing as f64 degrees, rows
 /// and columns as i32", "big-endian". The floats are given by their bits.
@@ -50,50 +53,35 @@ impl FileHeader {
             .collect()
     }
 
-    /// "Geometry … becomes the nearest nd": nothing if a number is not finite, or so large or so
-    /// far below zero that a trailer could not hold it, which is outside questions 3 to 5.
+    /// "Geometry … becomes the nearest nd": nothing if a number is not finite or outside questions
+    /// 3 to 5.
     fn geometry(&self, nearest: &impl Nearest) -> Option<Geometry> {
-        let nd = |bits| nearest(DOUBLE, bits, DEGREE);
-        Some(Geometry {
-            south: i64::try_from(nd(self.south)?).ok()?,
-            west: i64::try_from(nd(self.west)?).ok()?,
-            latitude_spacing: u32::try_from(nd(self.latitude_spacing)?).ok()?,
-            longitude_spacing: u32::try_from(nd(self.longitude_spacing)?).ok()?,
-            rows: u32::try_from(self.rows).ok()?,
-            columns: u32::try_from(self.columns).ok()?,
-        })
+        let axis = |bound, spacing, lines: i32| {
+            let nd = |bits| nearest(DOUBLE, bits, FROM_DEGREES);
+            Some([nd(bound)?, nd(spacing)?, lines.into()])
+        };
+        Geometry::within_questions_3_to_5(
+            axis(self.south, self.latitude_spacing, self.rows)?,
+            axis(self.west, self.longitude_spacing, self.columns)?,
+        )
     }
 }
 
-/// How the bits of a float of some width become the nearest whole number at a scale; nothing if it
-/// is not finite or too far from zero for any limit.
-pub trait Nearest: Fn(Width, u64, i128) -> Option<i128> {}
-
-impl<Function: Fn(Width, u64, i128) -> Option<i128>> Nearest for Function {}
-
-/// What a converted file gives: the geometry, "handed back", and the height nodes of an edition 2
-/// image in bytes.
-#[derive(Clone, Debug, PartialEq, Eq)]
-pub struct Heights {
-    pub geometry: Geometry,
-    pub nodes: Vec<u8>,
-}
-
 /// A VDatum file to the height nodes of an image, for a lent buffer of so many bytes.
-pub fn heights_from_vdatum(file: &[u8], buffer_length: usize) -> Result<Heights, Number> {
-    convert_file(file, buffer_length, nearest)
+pub fn heights_from_vdatum(file: &[u8], buffer_length: usize) -> Result<Converted, Number> {
+    convert_vdatum(file, buffer_length, nearest)
 }
 
 /// The same with any way to the nearest whole number.
-pub fn convert_file(
+pub fn convert_vdatum(
     file: &[u8],
     buffer_length: usize,
     nearest: impl Nearest,
-) -> Result<Heights, Number> {
+) -> Result<Converted, Number> {
     let geometry = file_geometry(file, buffer_length, &nearest)?;
     let nodes = node_heights(file, &nearest)?;
     let nodes = nodes.into_iter().flat_map(i32::to_le_bytes).collect();
-    Ok(Heights { geometry, nodes })
+    Ok(Converted { geometry, nodes })
 }
 
 /// "Refusal 16, first: a header number not finite or, once rounded, outside questions 3 to 5, or
@@ -105,9 +93,6 @@ fn file_geometry(
 ) -> Result<Geometry, Number> {
     let header = FileHeader::read(file).ok_or(16)?;
     let geometry = header.geometry(nearest).ok_or(16)?;
-    ask(geometry.counts_fit(), 16)?;
-    ask(geometry.spacings_fit(), 16)?;
-    ask(geometry.bounds_fit(), 16)?;
     let node_bytes = NODE_BYTES * geometry.nodes();
     ask(file.len() as i128 == HEADER_BYTES as i128 + node_bytes, 16)?;
     ask(buffer_length as i128 == node_bytes, 16)?;
@@ -117,9 +102,9 @@ fn file_geometry(
 /// "Then f32 metres from the south-west, west to east": an image has its nodes in this order too.
 /// "Refusal 17, second: a node not finite, or a rounded height beyond its limit." Else the heights.
 fn node_heights(file: &[u8], nearest: &impl Nearest) -> Result<Vec<i32>, Number> {
-    node_bits(file)
+    height_bits(file)
         .map(|bits| {
-            let height = nearest(SINGLE, bits.into(), METRE).ok_or(17)?;
+            let height = nearest(SINGLE, bits.into(), FROM_METRES).ok_or(17)?;
             ask(within(height, HEIGHT_LIMIT), 17)?;
             Ok(height as i32)
         })
@@ -127,7 +112,7 @@ fn node_heights(file: &[u8], nearest: &impl Nearest) -> Result<Vec<i32>, Number>
 }
 
 /// The bits of all whole nodes behind the header.
-pub fn node_bits(file: &[u8]) -> impl DoubleEndedIterator<Item = u32> + '_ {
+pub fn height_bits(file: &[u8]) -> impl DoubleEndedIterator<Item = u32> + '_ {
     let nodes = file.get(HEADER_BYTES..).unwrap_or_default();
     nodes
         .chunks_exact(NODE_BYTES as usize)

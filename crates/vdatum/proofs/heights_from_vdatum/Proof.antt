@@ -10,7 +10,8 @@ use borrow.Author.Needs.{needs}
 use borrow.Author.Tests.{not-true, not-false}
 use Rattle.rules.specs.Answers.{values, number, numberOf}
 use Rattle.rules.specs.Image.{rows, columns}
-use Rattle.rules.specs.Vdatum.{headerOf, question16, question17, heightsFrom, fileAnswerOf}
+use Rattle.rules.specs.Vdatum.{headerOf, question16, question17, heightsFrom}
+use Rattle.rules.specs.Files.{fileAnswerOf}
 use Rattle.rules.proofs.Answers.{asked, asked-no}
 use Rattle.vdatum.proofs.Header.{lengths-are}
 use Rattle.vdatum.proofs.heights_from_vdatum.Statement.{statement}

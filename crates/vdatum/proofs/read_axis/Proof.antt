@@ -6,7 +6,8 @@ use mir.Syntax.{w64}
 use mir.Val.{toZ, ofZ}
 use borrow.Author.Needs.{needs}
 use Rattle.integers.specs.Machine.{reads-back, told}
-use Rattle.rules.specs.Vdatum.{degreesAt, natural}
+use Rattle.rules.specs.Files.{natural}
+use Rattle.rules.specs.Vdatum.{degreesAt}
 use Rattle.floats.proofs.Answers.{is-whole, is-unfit}
 use Rattle.vdatum.specs.Reading.{degreesFit, degreesRead}
 use Rattle.vdatum.proofs.read_axis.Statement.{statement}

@@ -15,7 +15,8 @@ use Rattle.rules.specs.Answers.{values}
 use Rattle.rules.specs.Questions.{question3, questions3To5}
 use Rattle.rules.specs.Vdatum.{headerAxis, headerOf, heightBytes, question16}
 use Rattle.rules.proofs.Opening.{nodes-most}
-use Rattle.vdatum.proofs.Header.{axisFits, axis-fit, axis-unfit, header-tested}
+use Rattle.rules.proofs.Files.{axis-fit, axis-unfit}
+use Rattle.vdatum.proofs.Header.{axisFits, header-tested}
 use Rattle.vdatum.proofs.read_header.Statement.{statement}
 use Rattle.vdatum.proofs.read_header.Tie as tie
 

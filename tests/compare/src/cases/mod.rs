@@ -1,5 +1,5 @@
 //! The made-up calls: each follows from a seed and an index alone. Here those of edition 1, with
-//! what edition 2's, in `two_grids`, and those over VDatum files, in `files`, share with them.
+//! what edition 2's, in `two_grids`, and those over grid files, in `files`, share with them.
 
 mod axis;
 mod damage;

@@ -1,12 +1,13 @@
 //! The floats of the made-up files that are converted.
 
-use super::{files, fit_files, floats_of};
-use reference::{is_negative, node_bits, Exact, FileHeader, Width, DEGREE, DOUBLE, METRE, SINGLE};
+use super::{files, fit_angles, fit_files};
+use compare::Format;
+use reference::{is_negative, Exact, Fraction, Width, DOUBLE, SINGLE};
 use std::collections::BTreeSet;
 
 /// What a float is, and how far it is from an exact half at the scale: "half", "beside" if the
 /// float one bit further or nearer is one.
-fn kind(width: Width, bits: u64, scale: i128) -> &'static str {
+fn kind(width: Width, bits: u64, scale: Fraction) -> &'static str {
     let size = bits % (1 << (width.exponent_bits + width.fraction_bits));
     match size {
         0 => "zero",
@@ -19,14 +20,15 @@ fn kind(width: Width, bits: u64, scale: i128) -> &'static str {
 }
 
 /// Is the float's exact value times the scale a whole number and one half?
-fn is_half(width: Width, bits: u64, scale: i128) -> bool {
+fn is_half(width: Width, bits: u64, scale: Fraction) -> bool {
     let Some(Exact { mantissa, exponent }) = Exact::of(width, bits) else {
         return false;
     };
-    let doubled = 2 * mantissa * scale;
+    let (over, under) = scale.parts();
+    let doubled = 2 * mantissa * over;
     match exponent {
         -100..=-1 => {
-            let one = 1 << -exponent;
+            let one = under << -exponent;
             doubled % one == 0 && doubled / one % 2 != 0
         }
         _ => false,
@@ -43,57 +45,75 @@ const KINDS: [&str; 6] = [
 ];
 
 #[test]
-fn nodes_of_every_kind_and_sign_are_converted() {
-    let mut met = BTreeSet::new();
-    for file in fit_files() {
-        for bits in node_bits(&file.bytes).map(u64::from) {
-            met.insert((kind(SINGLE, bits, METRE), is_negative(SINGLE, bits)));
+fn values_of_every_kind_and_sign_are_converted() {
+    for format in Format::ALL {
+        let layout = format.layout();
+        let mut met = BTreeSet::new();
+        for file in fit_files(format) {
+            for value in file.values() {
+                let kind = kind(SINGLE, value.bits, layout.value_scale);
+                met.insert((value.name, kind, is_negative(SINGLE, value.bits)));
+            }
         }
+        let wanted = layout.values.len() * 2 * KINDS.len();
+        assert_eq!(met.len(), wanted, "{met:?}");
     }
-    assert_eq!(met.len(), 2 * KINDS.len(), "{met:?}");
 }
 
 #[test]
 fn angles_of_every_kind_and_sign_are_converted() {
-    let mut met = BTreeSet::new();
-    for file in fit_files() {
-        let header = FileHeader::read(&file.bytes).expect("a header");
-        for (name, bits) in floats_of(&header) {
-            met.insert((name, kind(DOUBLE, bits, DEGREE), is_negative(DOUBLE, bits)));
+    for format in Format::ALL {
+        let layout = format.layout();
+        let mut met = BTreeSet::new();
+        for angle in fit_angles(format) {
+            let kind = kind(DOUBLE, angle.bits, layout.angle_scale);
+            met.insert((angle.name, kind, is_negative(DOUBLE, angle.bits)));
+        }
+        for name in layout.angles {
+            let of_all = met.iter().filter(|it| it.0 == *name).count();
+            let is_spacing = name.contains("spacing") || name.contains("INC");
+            // A spacing is above zero, and far enough from it to be normal.
+            let wanted = if is_spacing {
+                KINDS.len() - 2
+            } else {
+                2 * KINDS.len()
+            };
+            assert_eq!(of_all, wanted, "{name} {met:?}");
         }
     }
-    let of_all = |name: &str| met.iter().filter(|it| it.0 == name).count();
-    assert_eq!(of_all("south"), 2 * KINDS.len(), "{met:?}");
-    assert_eq!(of_all("west"), 2 * KINDS.len(), "{met:?}");
-    // A spacing is above zero, and far enough from it to be normal.
-    assert_eq!(of_all("latitude spacing"), KINDS.len() - 2, "{met:?}");
-    assert_eq!(of_all("longitude spacing"), KINDS.len() - 2, "{met:?}");
 }
 
 /// A float in whose place f64 arithmetic finds an exact half: the products beside it are cut.
 #[test]
 fn angles_occur_that_f64_arithmetic_rounds_otherwise() {
-    let mut met = BTreeSet::new();
-    for file in fit_files() {
-        let header = FileHeader::read(&file.bytes).expect("a header");
-        for (name, bits) in floats_of(&header) {
-            let computed = (f64::from_bits(bits) * 1e9 + 0.5).floor() as i128;
-            if reference::nearest(DOUBLE, bits, DEGREE) != Some(computed) {
-                met.insert((name, is_negative(DOUBLE, bits)));
+    for format in Format::ALL {
+        let scale = format.layout().angle_scale;
+        let (over, under) = scale.parts();
+        let mut met = BTreeSet::new();
+        for angle in fit_angles(format) {
+            let product = f64::from_bits(angle.bits) * over as f64 / under as f64;
+            let computed = (product + 0.5).floor() as i128;
+            if reference::nearest(DOUBLE, angle.bits, scale) != Some(computed) {
+                met.insert((angle.name, is_negative(DOUBLE, angle.bits)));
             }
         }
+        assert!(met.len() >= 4, "{met:?}");
     }
-    assert!(met.len() >= 4, "{met:?}");
 }
 
-/// The last f32 that becomes 1,000,000 units, the first one past it, and the same below zero.
+/// The last f32 that becomes the limit, the one before it, the first two past it, and the same
+/// below zero.
 #[test]
-fn heights_stand_at_their_limit_and_one_bit_past_it() {
-    let mut met = BTreeSet::new();
-    for file in files() {
-        let nodes = node_bits(&file.bytes);
-        let noted = nodes.filter(|bits| (0x42C8_0005..=0x42C8_0008).contains(&(bits % (1 << 31))));
-        met.extend(noted);
+fn values_stand_at_their_limit_and_one_bit_past_it() {
+    for (format, first_unfit) in [(Format::Vdatum, 0x42C8_0007), (Format::Ntv2, 0x4210_0001)] {
+        let mut met = BTreeSet::new();
+        for file in files(format) {
+            let noted = first_unfit - 2..=first_unfit + 1;
+            let values = file
+                .values()
+                .filter(|it| noted.contains(&(it.bits % (1 << 31))));
+            met.extend(values.map(|it| (it.name, it.bits)));
+        }
+        assert_eq!(met.len(), 8 * format.layout().values.len(), "{met:?}");
     }
-    assert_eq!(met.len(), 8, "{met:?}");
 }

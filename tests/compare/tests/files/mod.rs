@@ -1,37 +1,41 @@
-//! The same for VDatum files: exact halves, zeros, subnormals, floats at and one bit beside every
-//! limit, each cause of a refusal by itself, at the last node alone, and two refusals at once.
+//! The same for the files of both formats: exact halves, zeros, subnormals, floats at and one bit
+//! beside every limit, each cause of a refusal by itself, at the last node alone, two refusals at
+//! once, and what is not read.
 
 mod floats;
 mod headers;
+mod ntv2;
 mod refusals;
 
 use crate::made_up::calls;
-use compare::{Call, File, Stream};
-use reference::{heights_from_vdatum, FileHeader};
+use compare::{Call, File, FileAxis, Float, Format, Stream};
+use reference::{nearest, DOUBLE};
 
-fn files() -> impl Iterator<Item = File> {
-    calls(Stream::Files).map(|call| match call {
-        Call::HeightsFromVdatum(file) => file,
+fn files(format: Format) -> impl Iterator<Item = File> {
+    calls(Stream::Files(format)).map(|call| match call {
+        Call::ConvertFile(file) => file,
         other => panic!("{other}"),
     })
 }
 
 /// The files that are converted.
-fn fit_files() -> impl Iterator<Item = File> {
-    files().filter(|file| heights_from_vdatum(&file.bytes, file.buffer_length).is_ok())
+fn fit_files(format: Format) -> impl Iterator<Item = File> {
+    files(format).filter(|file| file.converted().is_ok())
 }
 
-/// The headers of those that are long enough.
-fn headers() -> impl Iterator<Item = FileHeader> {
-    files().filter_map(|file| FileHeader::read(&file.bytes))
+/// The axes of those that are long enough.
+fn axes(format: Format) -> impl Iterator<Item = FileAxis> {
+    files(format).filter_map(|file| file.axes()).flatten()
 }
 
-/// The four floats of a header, with their names.
-fn floats_of(header: &FileHeader) -> [(&'static str, u64); 4] {
-    [
-        ("south", header.south),
-        ("west", header.west),
-        ("latitude spacing", header.latitude_spacing),
-        ("longitude spacing", header.longitude_spacing),
-    ]
+/// Bounds and spacings of the files that are converted.
+fn fit_angles(format: Format) -> impl Iterator<Item = Float> {
+    let axes = fit_files(format).filter_map(|file| file.axes()).flatten();
+    axes.flat_map(|axis| axis.floats().collect::<Vec<Float>>())
+}
+
+/// The nd that a bound or a spacing becomes, if it is not very far from zero.
+fn nd(format: Format, float: Float) -> Option<i128> {
+    let nd = nearest(DOUBLE, float.bits, format.layout().angle_scale);
+    nd.filter(|it| it.abs() < 1 << 40)
 }

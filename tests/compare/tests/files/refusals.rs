@@ -1,51 +1,53 @@
 //! The refusals of the made-up files.
 
 use super::files;
-use compare::{causes, Cause, File};
-use reference::{heights_from_vdatum, nearest, node_bits, FileHeader, Number, METRE, SINGLE};
+use compare::{causes, Cause, File, Format};
+use reference::Number;
 use std::collections::BTreeSet;
 
 fn number(file: &File) -> Number {
-    let converted = heights_from_vdatum(&file.bytes, file.buffer_length);
-    converted.err().unwrap_or(0)
+    file.converted().err().unwrap_or(0)
 }
 
 /// The first refusal that the causes lead to is the reference's.
 #[test]
 fn causes_and_the_reference_agree() {
-    for file in files() {
-        let causes = causes(&file);
-        let first = causes.iter().map(|cause| cause.number()).min();
-        assert_eq!(number(&file), first.unwrap_or(0), "{causes:?}");
+    for format in Format::ALL {
+        for file in files(format) {
+            let causes = causes(&file);
+            let first = causes.iter().map(|cause| cause.number(format)).min();
+            assert_eq!(number(&file), first.unwrap_or(0), "{causes:?}");
+        }
     }
 }
 
 #[test]
-fn every_cause_of_16_occurs_beside_an_unfit_node() {
-    let mut met = Vec::new();
-    for file in files() {
-        let (of_16, of_17): (Vec<Cause>, Vec<Cause>) =
-            causes(&file).into_iter().partition(|it| it.number() == 16);
-        if let ([only], [_, ..]) = (&of_16[..], &of_17[..]) {
-            met.push(*only);
+fn every_cause_of_the_first_refusal_occurs_beside_an_unfit_node() {
+    for format in Format::ALL {
+        let mut met = Vec::new();
+        for file in files(format) {
+            let (of_nodes, others): (Vec<Cause>, Vec<Cause>) =
+                causes(&file).into_iter().partition(|it| it.is_of_a_node());
+            if let ([only], [_, ..]) = (&others[..], &of_nodes[..]) {
+                met.push(*only);
+            }
         }
+        let missing: Vec<Cause> = Cause::all(format)
+            .into_iter()
+            .filter(|it| !it.is_of_a_node() && *it != Cause::NoHeader && !met.contains(it))
+            .collect();
+        assert_eq!(missing, []);
     }
-    let missing: Vec<Cause> = Cause::all()
-        .into_iter()
-        .filter(|it| it.number() == 16 && *it != Cause::NoHeader && !met.contains(it))
-        .collect();
-    assert_eq!(missing, []);
 }
 
-/// Where the only node that 17 refuses stands, if it is one.
-fn place_of_the_only_unfit_node(file: &File) -> Option<&'static str> {
-    let height = |bits: u32| nearest(SINGLE, bits.into(), METRE);
-    let fit = |bits| height(bits).is_some_and(|it| it.abs() <= 1_000_000);
-    let nodes: Vec<bool> = node_bits(&file.bytes).map(fit).collect();
-    if nodes.iter().filter(|fit| !**fit).count() != 1 {
+/// Where the only value that the second refusal names stands, if it is one.
+fn place_of_the_only_unfit_value(file: &File) -> Option<&'static str> {
+    let layout = file.format.layout();
+    let values: Vec<bool> = file.values().map(|it| layout.allows(it)).collect();
+    if values.iter().filter(|fit| !**fit).count() != 1 {
         return None;
     }
-    Some(match nodes[..] {
+    Some(match values[..] {
         [false, ..] => "first",
         [.., false] => "last",
         _ => "between",
@@ -53,36 +55,64 @@ fn place_of_the_only_unfit_node(file: &File) -> Option<&'static str> {
 }
 
 #[test]
-fn number_17_comes_from_the_first_node_alone_and_from_the_last_one_alone() {
-    let refused = files().filter(|file| number(file) == 17);
-    let places: BTreeSet<&str> = refused
-        .filter_map(|file| place_of_the_only_unfit_node(&file))
-        .collect();
-    assert_eq!(places.len(), 3, "{places:?}");
+fn the_second_refusal_comes_from_the_first_value_alone_and_from_the_last_one_alone() {
+    for format in Format::ALL {
+        let second = format.layout().refusals[1];
+        let refused = files(format).filter(|file| number(file) == second);
+        let places: BTreeSet<&str> = refused
+            .filter_map(|file| place_of_the_only_unfit_value(&file))
+            .collect();
+        assert_eq!(places.len(), 3, "{places:?}");
+    }
 }
 
 /// How much longer the file is than its header asks for, and the buffer, where all else is fit.
+fn length_differences(format: Format) -> BTreeSet<(&'static str, i64)> {
+    let layout = format.layout();
+    let mut met = BTreeSet::new();
+    for file in files(format) {
+        let only_lengths = |it: &Cause| matches!(it, Cause::FileLength(_) | Cause::BufferLength(_));
+        let causes = causes(&file);
+        let (length, room) = (file.bytes.len() as i64, file.buffer_length as i64);
+        if causes == [Cause::NoHeader] {
+            met.insert(("no header", length));
+        } else if causes.iter().all(only_lengths) {
+            let nodes = nodes_asked_for(&file);
+            let fixed = (layout.headers + layout.end) as i64;
+            met.insert(("file", length - fixed - layout.node as i64 * nodes));
+            met.insert(("buffer", room - layout.buffer_node as i64 * nodes));
+        }
+    }
+    met
+}
+
+/// Rows times columns of a file whose axes are fit.
+fn nodes_asked_for(file: &File) -> i64 {
+    let nd = |it| super::nd(file.format, it).expect("a fit angle") as i64;
+    let axes = file.axes().expect("a file with a header");
+    let lines = axes.map(|axis| match axis.high {
+        Some(high) => (nd(high) - nd(axis.low)) / nd(axis.spacing) + 1,
+        None => axis.lines.expect("a count").into(),
+    });
+    lines[0] * lines[1]
+}
+
 #[test]
 fn lengths_are_one_byte_and_one_node_too_few_and_too_many() {
-    let mut met = BTreeSet::new();
-    for file in files() {
-        let Some(header) = FileHeader::read(&file.bytes) else {
-            met.insert(("no header", file.bytes.len() as i64));
-            continue;
-        };
-        let only_lengths = |it: &Cause| matches!(it, Cause::FileLength(_) | Cause::BufferLength(_));
-        if !causes(&file).iter().all(only_lengths) {
-            continue;
+    for (format, short) in [
+        (Format::Vdatum, &[0, 1, 8, 39][..]),
+        (Format::Ntv2, &[0, 1, 16, 175, 176, 351, 352, 367]),
+    ] {
+        let layout = format.layout();
+        let met = length_differences(format);
+        for (name, node) in [("file", layout.node), ("buffer", layout.buffer_node)] {
+            let node = node as i64;
+            for change in [-node, -1, 0, 1, node] {
+                assert!(met.contains(&(name, change)), "{name} {change}");
+            }
         }
-        let nodes = 4 * i64::from(header.rows) * i64::from(header.columns);
-        met.insert(("file", file.bytes.len() as i64 - 40 - nodes));
-        met.insert(("buffer", file.buffer_length as i64 - nodes));
-    }
-    for change in [-4, -1, 0, 1, 4] {
-        assert!(met.contains(&("file", change)), "{change}");
-        assert!(met.contains(&("buffer", change)), "{change}");
-    }
-    for length in [0, 1, 8, 39] {
-        assert!(met.contains(&("no header", length)), "{length}");
+        for length in short {
+            assert!(met.contains(&("no header", *length)), "{length}");
+        }
     }
 }

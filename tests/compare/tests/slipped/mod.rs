@@ -7,7 +7,7 @@ mod images;
 mod slip;
 mod ways;
 
-use compare::{Converter, Reference, Way};
+use compare::{Converter, Format, Reference, Way};
 use reference::{convert_list, Axis, Notation, Number};
 pub use slip::{FileSlip, Slip, TwoGridSlip};
 
@@ -107,15 +107,16 @@ impl Converter for Slipped {
         number
     }
 
-    fn heights_from_vdatum(
+    fn convert_file(
         &self,
+        format: Format,
         file: &mut [u8],
         nodes: &mut [u8],
         geometry: &mut [i64; 6],
     ) -> Number {
         match self.0 {
-            Slip::Files(slip) => slip.convert(file, nodes, geometry),
-            _ => Reference.heights_from_vdatum(file, nodes, geometry),
+            Slip::Files(slip) => slip.convert(format, file, nodes, geometry),
+            _ => Reference.convert_file(format, file, nodes, geometry),
         }
     }
 }

@@ -1,6 +1,6 @@
 //! The slips that can be planted.
 
-use compare::Cause;
+use compare::{Cause, Format, Stream};
 use reference::Number;
 
 /// The slips: first those of document 01's "Slips seen in the bought code", in its order.
@@ -59,8 +59,19 @@ pub enum Slip {
     NegativeZeroRefused,
     /// In edition 2.
     TwoGrids(TwoGridSlip),
-    /// In the conversion of a VDatum file.
+    /// In the conversion of a file.
     Files(FileSlip),
+}
+
+impl Slip {
+    /// The streams whose calls show it.
+    pub fn streams(self) -> Vec<Stream> {
+        match self {
+            Slip::TwoGrids(_) => vec![Stream::EditionTwo],
+            Slip::Files(slip) => slip.formats().iter().map(|it| Stream::Files(*it)).collect(),
+            _ => vec![Stream::EditionOne],
+        }
+    }
 }
 
 /// The slips that only an image of edition 2 shows.
@@ -110,7 +121,7 @@ impl From<TwoGridSlip> for Slip {
     }
 }
 
-/// The slips of the conversion of a VDatum file.
+/// The slips of the conversion of a file.
 #[derive(Clone, Copy, PartialEq, Eq)]
 pub enum FileSlip {
     /// None: the conversion is then another way to say the reference's.
@@ -138,41 +149,90 @@ pub enum FileSlip {
     InfinityIsZero,
     /// The angle is multiplied as an f64.
     DoubleArithmetic,
-    /// The height is multiplied as an f32.
+    /// The node's value is multiplied as an f32.
     SingleArithmetic,
-    LittleEndianHeader,
-    LittleEndianNodes,
-    /// The buffer gets big-endian heights.
+    /// The headers' numbers are read in the other byte order.
+    HeadersReversed,
+    /// The nodes' floats are read in the other byte order.
+    NodesReversed,
+    /// The buffer gets big-endian numbers.
     BigEndianBuffer,
-    RowsAndColumnsSwapped,
     SpacingsSwapped,
-    SouthAndWestSwapped,
     /// The northern row comes first in the buffer.
     NorthFirst,
-    /// Nodes are written until one is refused.
-    NodesWrittenAtOnce,
-    /// The geometry is written before 17.
-    GeometryWrittenBefore17,
-    /// The geometry is cleared before 16.
+    /// Rows are written until one is refused.
+    RowsWrittenAtOnce,
+    /// The geometry is written before the nodes are asked.
+    GeometryWrittenBeforeNodes,
+    /// The geometry is cleared before the first question.
     GeometryCleared,
     /// One byte of the file is written.
     FileWritten,
-    /// A byte behind the last node is let pass.
+    /// A byte behind the file's end is let pass.
     LongerFileTaken,
     /// A buffer with room for one byte more is taken.
     LongerBufferTaken,
-    /// Heights are not refused by their limit, but cut to it.
-    HeightsCutToTheLimit,
-    /// The height's limit is itself refused.
-    HeightLimitRefused,
-    /// The limit is asked of the exact height, not of the rounded one.
-    LimitBeforeRounding,
+    /// Values are not refused by their limit, but cut to it.
+    ValuesCutToTheLimit,
+    /// The limit of values is itself refused.
+    LimitRefused,
     /// The last node is not asked.
     LastNodeNotAsked,
-    /// 17 comes before 16.
-    SeventeenFirst,
+    /// The nodes' refusal comes before the file's.
+    NodesFirst,
     /// A file that is refused for this alone gets 0.
     NotAsked(Cause),
+    /// In VDatum files.
+    RowsAndColumnsSwapped,
+    SouthAndWestSwapped,
+    /// The limit is asked of the exact height, not of the rounded one. No shift shows it: the first
+    /// f32 past 36 arcseconds is past the limit once rounded, too.
+    LimitBeforeRounding,
+    /// In NTv2 files: longitudes and their shifts are rounded, and then their sign is turned.
+    TurnedAfterRounding,
+    /// Longitudes and their shifts keep their sign.
+    NotTurned,
+    /// A row's nodes stay in the file's order.
+    NodesFromTheWest,
+    EastAndWestSwapped,
+    /// The first accuracy is taken for the longitude shift.
+    AccuracyForShift,
+    /// The buffer gets the longitude correction first.
+    LongitudeFirst,
+    /// Rows are counted by the longitude spacing.
+    RowsByTheColumnSpacing,
+    /// PARENT is asked to be NONE.
+    ParentRead,
+    /// PARENT is asked not to be NONE. Only a call made again with other bytes that are not read
+    /// shows it.
+    NoneRefused,
+    /// A label may be filled with zeros.
+    FillingNotAsked,
+    /// A count is read with the four bytes behind it.
+    LongCounts,
+}
+
+impl FileSlip {
+    /// The formats of files that show it.
+    pub fn formats(self) -> &'static [Format] {
+        match self {
+            FileSlip::RowsAndColumnsSwapped
+            | FileSlip::SouthAndWestSwapped
+            | FileSlip::LimitBeforeRounding => &[Format::Vdatum],
+            FileSlip::TurnedAfterRounding
+            | FileSlip::NotTurned
+            | FileSlip::NodesFromTheWest
+            | FileSlip::EastAndWestSwapped
+            | FileSlip::AccuracyForShift
+            | FileSlip::LongitudeFirst
+            | FileSlip::RowsByTheColumnSpacing
+            | FileSlip::ParentRead
+            | FileSlip::NoneRefused
+            | FileSlip::FillingNotAsked
+            | FileSlip::LongCounts => &[Format::Ntv2],
+            _ => &Format::ALL,
+        }
+    }
 }
 
 impl From<FileSlip> for Slip {

@@ -1,6 +1,6 @@
 //! A small file and its changes.
 
-use reference::{heights_from_vdatum, FileHeader, Heights, Number};
+use reference::{heights_from_vdatum, Converted, FileHeader, Number};
 
 /// Three rows and two columns from 52 degrees north and 5 degrees east, 1/64 degree apart.
 pub fn header() -> FileHeader {
@@ -25,12 +25,12 @@ pub fn file_of(header: &FileHeader, nodes: &[u32]) -> Vec<u8> {
 }
 
 /// What comes of a file if the buffer has room for its nodes.
-pub fn converted(file: &[u8]) -> Result<Heights, Number> {
+pub fn converted(file: &[u8]) -> Result<Converted, Number> {
     heights_from_vdatum(file, file.len().saturating_sub(40))
 }
 
 /// What comes of a header with as many nodes as its counts say, at most three million.
-pub fn converted_header(header: &FileHeader) -> Result<Heights, Number> {
+pub fn converted_header(header: &FileHeader) -> Result<Converted, Number> {
     let nodes = i64::from(header.rows) * i64::from(header.columns);
     let nodes = vec![SOME_HEIGHT; nodes.clamp(0, 3_000_000) as usize];
     converted(&file_of(header, &nodes))

@@ -1,0 +1,3 @@
+-- What the contracts of the file's readers cite beside the rules, and a theorem for readers.
+pub mod Reading
+pub mod Burned

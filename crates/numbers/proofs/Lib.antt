@@ -1,0 +1,2 @@
+-- Laws of numbers by their sign.
+pub mod Signs
