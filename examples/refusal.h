@@ -11,7 +11,7 @@
 static const char *meaning(enum marker_number number) {
     switch (number) {
     case MARKER_DONE: return "Nothing is refused.";
-    case MARKER_REFUSED_IMAGE_LENGTH: return "The image is shorter than its trailer.";
+    case MARKER_REFUSED_IMAGE_LENGTH: return "The image is too short for its trailer, or for that of its dense grid.";
     case MARKER_REFUSED_EDITION: return "The image is of an edition or a kind that this code does not know.";
     case MARKER_REFUSED_NODE_COUNT: return "The image has too few or too many rows or columns.";
     case MARKER_REFUSED_SPACING: return "A spacing of the image is zero or too large.";
@@ -28,8 +28,10 @@ static const char *meaning(enum marker_number number) {
     case MARKER_REFUSED_OFF_HEIGHT_GRID: return "The Bessel point lies off the height grid.";
     case MARKER_REFUSED_VDATUM_FILE: return "The VDatum file's header is no grid's, or the file or the buffer is not of its length.";
     case MARKER_REFUSED_VDATUM_HEIGHT: return "A height of the VDatum file is not finite or past its limit.";
-    case MARKER_REFUSED_NTV2_FILE: return "The NTv2 file's labels, counts or grid are not as they should be, or a length is not exact.";
+    case MARKER_REFUSED_NTV2_FILE: return "The NTv2 file's labels, counts, parents or grids are not right, or a length is not exact.";
     case MARKER_REFUSED_NTV2_SHIFT: return "A shift of the NTv2 file is not finite or past its limit.";
+    case MARKER_REFUSED_DENSE_ALIGNMENT: return "The dense grid is not aligned with the correction grid, or reaches outside it.";
+    case MARKER_REFUSED_DENSE_BORDER: return "The border of the dense grid differs from the correction grid.";
     }
     return "This is no number of document 01.";
 }

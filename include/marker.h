@@ -5,10 +5,12 @@
  * length says, or as the declaration does; what is written overlaps nothing else that is passed. Where the length is 0, any
  * non-null pointer will do.
  * A function gives MARKER_DONE, or the number of the first of document 01's questions put to the call whose answer is no; then
- * what it was lent is unchanged. A list call puts 14 right after 6; 7 to 11 and 15 are put to each fix and stand in that fix's
- * answer. An image of edition 2 has its corrections on one grid and its heights on another; 3 to 6 are put to both, each question
- * to the correction grid and then to the height grid. 16 and 17 are put to VDatum files, which the bench converts into the height
- * nodes of such an image, and 18 and 19 to NTv2 files, which it converts into the correction nodes.
+ * what it was lent is unchanged. A list call puts 14 right after 6, or after 20 where that is put; 7 to 11 and 15 are put to each
+ * fix and stand in that fix's answer. An image of edition 2 has its corrections on one grid and its heights on another; its kind 1
+ * has a dense grid of corrections too, inside the correction grid. 1 to 6 are put to all of them, each question to the correction
+ * grid, then to the height grid and last to the dense grid; 20 comes right after 6, and 21 in the grid check after 12. 16 and 17
+ * are put to VDatum files, which the bench converts into the height nodes of such an image, and 18 and 19 to NTv2 files, which it
+ * converts into the correction nodes and, of a subgrid, the dense nodes.
  */
 #ifndef MARKER_H
 #define MARKER_H
@@ -24,8 +26,10 @@ extern "C" {
 /* What a function gives, and what stands in an answer of a list: document 01's numbers. */
 enum marker_number {
     MARKER_DONE = 0,
-    MARKER_REFUSED_IMAGE_LENGTH = 1,     /* the image has fewer than 40 bytes, in edition 2 fewer than 80 */
-    MARKER_REFUSED_EDITION = 2,          /* its edition is not 1 or 2, or edition 2's kind is not 0 */
+    MARKER_REFUSED_IMAGE_LENGTH = 1,     /* the image has fewer than 40 bytes, in edition 2 fewer than 80. With kind 1 also, once the
+                                            kind is known: fewer than 36 plus the back to the correction nodes, whatever that back
+                                            is */
+    MARKER_REFUSED_EDITION = 2,          /* its edition is not 1 or 2, or edition 2's kind is not 0 or 1 */
     MARKER_REFUSED_NODE_COUNT = 3,       /* its rows or columns are not from 2 to 4,096 */
     MARKER_REFUSED_SPACING = 4,          /* a spacing is not from 1 to 100,000,000 */
     MARKER_REFUSED_GRID_BOUNDS = 5,      /* a bound lies past 90 degrees (south, north) or 180 degrees (west, east) from zero */
@@ -34,12 +38,14 @@ enum marker_number {
                                             100,000,000 (out) or 110,000,000 (back) */
     MARKER_REFUSED_OUTSIDE_BOUNDS = 8,   /* the fix's point is not in the bounds of the corrections */
     MARKER_REFUSED_NODE_LIMITS = 9,      /* a correction past 10,000,000 or a height past 1,000,000 at a corner of a cell used, or
-                                            at any node in the grid check. In edition 2 a cell of the correction grid has
-                                            corrections alone, and one of the height grid heights */
+                                            at any node in the grid check. In edition 2 a cell of the correction grid or of the
+                                            dense grid has corrections alone, and one of the height grid heights */
     MARKER_REFUSED_ITERATE_OUTSIDE = 10, /* out: one of the points p1 to p5 is not in the bounds */
-    MARKER_REFUSED_NOT_SETTLED = 11,     /* out: the stop rule has not held after five evaluations */
+    MARKER_REFUSED_NOT_SETTLED = 11,     /* out: the stop rule has not held after five evaluations. It asks that both angles differ
+                                            from those of the point before by at most 1 nd, with a dense grid by at most 3 nd */
     MARKER_REFUSED_SLOPE = 12,           /* grid check: 100 * (A * Q + B * P) is above P * Q for a value; A and B its findings
-                                            northward and eastward, P and Q its grid's latitude and longitude spacing */
+                                            northward and eastward, P and Q its grid's latitude and longitude spacing. Last put to
+                                            both corrections of a dense grid, by its own steps and spacings */
     MARKER_REFUSED_BAD_NOTATION = 13,    /* minutes or seconds not below 60, a letter not of the axis, or an angle past 90 or 180
                                             degrees from zero */
     MARKER_REFUSED_LIST_LENGTHS = 14,    /* the fixes' length is not 3 * n and the answers' length 5 * n for the same n */
@@ -49,10 +55,17 @@ enum marker_number {
                                             the file or the buffer is not of the exact length */
     MARKER_REFUSED_VDATUM_HEIGHT = 17,   /* VDatum: a node is not finite or, once rounded, is past 1,000,000 */
     MARKER_REFUSED_NTV2_FILE = 18,       /* NTv2: a label is wrong, the type is not SECONDS, a record count is not 11, the number of
-                                            grids is not 1, the file or the buffer is not of the exact length, or a bound or a
+                                            grids is not 1 or 2, the first grid's PARENT is not NONE or the subgrid's not the first
+                                            grid's SUB_NAME, the file or a buffer is not of the exact length, or a bound or a
                                             spacing is not finite or, once rounded, is refused by 3 to 5 or against the node count,
                                             or a difference of bounds is not a whole number of spacings */
-    MARKER_REFUSED_NTV2_SHIFT = 19       /* NTv2: a shift is not finite or, once rounded, is past 10,000,000 */
+    MARKER_REFUSED_NTV2_SHIFT = 19,      /* NTv2: a shift is not finite or, once rounded, is past 10,000,000 */
+    MARKER_REFUSED_DENSE_ALIGNMENT = 20, /* kind 1: a bound of the dense grid is outside the correction grid or not on one of its
+                                            grid lines, or a spacing of that is not a whole multiple of the dense one. Put after 6,
+                                            by every call that takes an image */
+    MARKER_REFUSED_DENSE_BORDER = 21     /* grid check, kind 1, after 12: a correction at a node on the border of the dense grid, its
+                                            first and last row and column, is more than 1 nd from the exact value, not rounded, that
+                                            the correction grid has there */
 };
 
 /* An image, in bytes; its numbers are little-endian. Bytes before the first node have no meaning. Nodes stand in rows, the southern
@@ -68,7 +81,15 @@ enum marker_number {
  *           32  uint32_t  back: the distance from the image's end to the first node, 12 * rows * columns + 40
  *           36  uint32_t  edition: 1
  *
- * Edition 2: the nodes of the correction grid, then those of the height grid, then the trailer; they touch each other.
+ * Edition 2: the nodes of the correction grid, then those of the height grid, then the trailer; they touch each other. In kind 1 the nodes
+ * of the dense grid and the dense trailer come before them and touch each other and the first correction node. Where they begin is found
+ * by the back to that node. Every back counts from the image's end.
+ *
+ *   dense node        0            as a correction node
+ *
+ *   dense trailer     0            geometry of the dense grid
+ *                    32  uint32_t  back to the first dense node, 8 * rows * columns (dense grid) + 36 + back to the first correction
+ *                                  node
  *
  *   correction node   0  int32_t   latitude correction, nd
  *                     4  int32_t   longitude correction, nd
@@ -80,7 +101,7 @@ enum marker_number {
  *                    64  uint32_t  back to the first correction node, 8 * rows * columns (correction grid) + back to the first
  *                                  height node
  *                    68  uint32_t  back to the first height node, 4 * rows * columns (height grid) + 80
- *                    72  uint32_t  kind: 0
+ *                    72  uint32_t  kind: 0, or 1 with a dense grid
  *                    76  uint32_t  edition: 2
  *
  *   geometry  0  int64_t   southern latitude, nd
@@ -89,12 +110,16 @@ enum marker_number {
  *            20  uint32_t  longitude spacing, nd
  *            24  uint32_t  rows
  *            28  uint32_t  columns
+ *
+ * At a point in the dense bounds, all four included, the corrections are those of the dense grid, and elsewhere those of the correction
+ * grid; in the dense bounds no conversion reads the correction grid's nodes. Heights are those of the height grid everywhere.
  */
 enum {
     MARKER_NODE_LENGTH = 12,
     MARKER_TRAILER_LENGTH = 40,
-    MARKER_CORRECTION_NODE_LENGTH = 8,
+    MARKER_CORRECTION_NODE_LENGTH = 8, /* a dense node's too */
     MARKER_HEIGHT_NODE_LENGTH = 4,
+    MARKER_DENSE_TRAILER_LENGTH = 36,
     MARKER_TWO_GRID_TRAILER_LENGTH = 80
 };
 
@@ -110,7 +135,8 @@ enum {
 };
 
 /* What stands where in the findings: the largest absolute step of a value (latitude correction and longitude correction in nd,
- * quasi-geoid height in units) between neighbours in latitude (northward) and in longitude (eastward). */
+ * quasi-geoid height in units) between neighbours in latitude (northward) and in longitude (eastward). Steps of corrections are those
+ * of the correction grid: a dense grid's are tested, but not written. */
 enum {
     MARKER_LATITUDE_NORTHWARD = 0,
     MARKER_LATITUDE_EASTWARD = 1,
@@ -134,30 +160,40 @@ enum {
  */
 enum { MARKER_VDATUM_HEADER_LENGTH = 40, MARKER_VDATUM_NODE_LENGTH = 4 };
 
-/* An NTv2 .gsb file with one grid, in bytes; its numbers are little-endian. An overview of eleven records, the grid's header of eleven
- * records, rows * columns nodes, and the record END, whose value is not read. Labels and texts are filled with spaces. What is not read
- * may be anything.
+/* An NTv2 .gsb file, in bytes; its numbers are little-endian. An overview of eleven records, one grid or a grid and after it its subgrid,
+ * and the record END, whose value is not read. A grid is a header of eleven records and rows * columns nodes. Labels and texts are filled
+ * with spaces. What is not read may be anything.
  *
  *   record   0  char[8]  label
  *            8  8 bytes  value: an int32_t and four bytes that are not read for a count, a double for a bound or a spacing
  *
- *   overview 0  NUM_OREC, a count: 11     64  VERSION    not read     128  MINOR_F   not read
- *           16  NUM_SREC, a count: 11     80  SYSTEM_F   not read     144  MAJOR_T   not read
- *           32  NUM_FILE, a count: 1      96  SYSTEM_T   not read     160  MINOR_T   not read
- *           48  GS_TYPE: SECONDS         112  MAJOR_F    not read
+ *   overview 0  NUM_OREC, a count: 11       64  VERSION    not read     128  MINOR_F   not read
+ *           16  NUM_SREC, a count: 11       80  SYSTEM_F   not read     144  MAJOR_T   not read
+ *           32  NUM_FILE, a count: 1 or 2   96  SYSTEM_T   not read     160  MINOR_T   not read
+ *           48  GS_TYPE: SECONDS           112  MAJOR_F    not read
  *
- *   header   0  SUB_NAME  not read        64  S_LAT   arcseconds      128  LAT_INC   arcseconds
- *           16  PARENT    not read        80  N_LAT   arcseconds      144  LONG_INC  arcseconds
- *           32  CREATED   not read        96  E_LONG  arcseconds      160  GS_COUNT, a count: rows * columns
- *           48  UPDATED   not read       112  W_LONG  arcseconds
+ *   header   0  SUB_NAME  a text            64  S_LAT   arcseconds      128  LAT_INC   arcseconds
+ *           16  PARENT: NONE, or the        80  N_LAT   arcseconds      144  LONG_INC  arcseconds
+ *               name of the first grid      96  E_LONG  arcseconds      160  GS_COUNT, a count: rows * columns
+ *           32  CREATED   not read         112  W_LONG  arcseconds
+ *           48  UPDATED   not read
+ *
+ * PARENT is NONE in the first header. In that of a subgrid it is the first header's SUB_NAME, all 8 bytes, whatever they are; otherwise
+ * SUB_NAME is not read.
  *
  *   node     0  float    latitude shift, arcseconds; in rows, the southern row first, each row from east to west
  *            4  float    longitude shift, arcseconds, positive to the west as the longitudes are
  *            8  2 float  accuracies, not read
  */
-enum { MARKER_NTV2_HEADERS_LENGTH = 352, MARKER_NTV2_NODE_LENGTH = 16, MARKER_NTV2_END_LENGTH = 16 };
+enum {
+    MARKER_NTV2_OVERVIEW_LENGTH = 176,
+    MARKER_NTV2_HEADER_LENGTH = 176,
+    MARKER_NTV2_NODE_LENGTH = 16,
+    MARKER_NTV2_END_LENGTH = 16
+};
 
-/* What stands where in the geometry that a conversion of a file hands back. */
+/* What stands where in the geometry that a conversion of a file hands back. That of an NTv2 file hands back two, the second one from
+ * MARKER_DENSE_GEOMETRY on: its rows stand at MARKER_DENSE_GEOMETRY + MARKER_ROWS. */
 enum {
     MARKER_SOUTH = 0,             /* nd, as the three below */
     MARKER_WEST = 1,
@@ -165,7 +201,9 @@ enum {
     MARKER_LONGITUDE_SPACING = 3,
     MARKER_ROWS = 4,
     MARKER_COLUMNS = 5,
-    MARKER_GEOMETRY_LENGTH = 6
+    MARKER_GEOMETRY_LENGTH = 6,
+    MARKER_DENSE_GEOMETRY = 6,
+    MARKER_GEOMETRIES_LENGTH = 12
 };
 
 /* What stands where in a notation. */
@@ -187,29 +225,41 @@ enum {
  * The code is that of all functions with their constants, without what a linker puts between functions to begin each at a multiple
  * of 16. The stack of a call counts from the stack pointer before the call instruction: the return address, all that is pushed and
  * reserved below it, and what is used of the red zone, the 128 bytes below the stack pointer that no handler may touch. It does not
- * grow with the image or the list. */
+ * grow with the image, the list or the file. The seventh argument of marker_corrections_from_ntv2 is not counted: its caller puts it on
+ * the stack before. */
 enum {
-    MARKER_CODE_BYTES = 15768,
-    MARKER_GRID_CHECK_STACK = 240,
-    MARKER_LIST_OUT_STACK = 1416,
-    MARKER_LIST_BACK_STACK = 1416,
+    MARKER_CODE_BYTES = 23020,
+    MARKER_GRID_CHECK_STACK = 784,
+    MARKER_LIST_OUT_STACK = 1032,
+    MARKER_LIST_BACK_STACK = 1032,
     MARKER_READ_NOTATION_STACK = 8,
     MARKER_WRITE_NOTATION_STACK = 8,
     MARKER_HEIGHTS_FROM_VDATUM_STACK = 200,
-    MARKER_CORRECTIONS_FROM_NTV2_STACK = 344
+    MARKER_CORRECTIONS_FROM_NTV2_STACK = 840
 };
 
-/* The grid check. Gives 0 with the findings written, or 1 to 6, 9 or 12. */
+/* The grid check. Gives 0 with the findings written, or 1 to 6, 20, 9, 12 or 21. */
 int64_t marker_grid_check(const uint8_t *image, size_t image_len, int64_t findings[MARKER_FINDINGS_LENGTH]);
 
 /* Converts all fixes from ETRS89 and ellipsoidal height to Bessel and NAP, each to the answer at its place in the list. A refused
- * fix does not end the list. Gives 0, or 1 to 6 or 14. */
+ * fix does not end the list. Gives 0, or 1 to 6, 20 or 14. */
 int64_t marker_list_out(const uint8_t *image, size_t image_len, const int64_t *fixes, size_t fixes_len, int64_t *answers,
                         size_t answers_len);
 
 /* Converts all fixes back, from Bessel and NAP to ETRS89 and ellipsoidal height; else as above. */
 int64_t marker_list_back(const uint8_t *image, size_t image_len, const int64_t *fixes, size_t fixes_len, int64_t *answers,
                          size_t answers_len);
+
+/* What is promised of every image that the grid check passes, whatever its nodes hold. Inside means inside all four bounds of the
+ * correction grid and of the height grid; in edition 1 they are one.
+ *
+ * A fix at least 10,000,000 nd inside, its height within 100,000,000, is answered going out, after at most five evaluations. This answer,
+ * taken back, gives the fix's height exactly and each angle within 1 nd of the fix's, or within 3 nd if the image has a dense grid, however
+ * near to its bounds or far from it the fix lies.
+ *
+ * Of images without a dense grid also: every other Bessel point in the bounds that goes back to within 1 nd of the fix in both angles lies
+ * within 3 nd of the way out's answer in each angle. And a Bessel point at least 20,000,000 nd inside, its NAP height within 99,000,000, is
+ * answered going back; this answer, taken out, is answered with each angle within 2 nd of the point's and the height within 1 unit. */
 
 /* Reads the four parts of a notation as an angle in nd. `longitude` is true for longitudes, false for latitudes. Gives 0, or 13. */
 int64_t marker_read_notation(bool longitude, uint64_t degrees, uint64_t minutes, uint64_t hundred_thousandths, uint8_t letter, int64_t *nd);
@@ -223,12 +273,14 @@ int64_t marker_write_notation(bool longitude, int64_t nd, uint64_t notation[MARK
 int64_t marker_heights_from_vdatum(const uint8_t *file, size_t file_len, uint8_t *nodes, size_t nodes_len,
                                    int64_t geometry[MARKER_GEOMETRY_LENGTH]);
 
-/* Converts an NTv2 file with one grid: the signs of longitudes and of their shifts are turned, then every angle becomes the nearest nd,
- * halves upward, from the float's exact value. The buffer `nodes` has room for 8 * rows * columns bytes, no more and no less, and gets
- * the correction nodes of an image of edition 2, ready to be burned. Gives 0 with the nodes and the geometry written, or 18 or 19 with
- * both unchanged. */
-int64_t marker_corrections_from_ntv2(const uint8_t *file, size_t file_len, uint8_t *nodes, size_t nodes_len,
-                                     int64_t geometry[MARKER_GEOMETRY_LENGTH]);
+/* Converts an NTv2 file: the signs of longitudes and of their shifts are turned, then every angle becomes the nearest nd, halves upward,
+ * from the float's exact value. The buffer `nodes` has room for 8 * rows * columns bytes of the first grid, no more and no less, and gets
+ * the correction nodes of an image of edition 2, ready to be burned. The buffer `dense` likewise has room for those of the subgrid and gets
+ * the dense nodes of kind 1; for a file with one grid its length is 0, with any non-null pointer, and the last six numbers of the geometry
+ * become zeros. Gives 0 with both buffers and the geometry written, or 18 or 19 with all three unchanged. Whether the two grids fit each
+ * other is not asked here: if they do not, an image of them is refused, by 20 in every call or by 21 in the grid check. */
+int64_t marker_corrections_from_ntv2(const uint8_t *file, size_t file_len, uint8_t *nodes, size_t nodes_len, uint8_t *dense,
+                                     size_t dense_len, int64_t geometry[MARKER_GEOMETRIES_LENGTH]);
 
 #ifdef __cplusplus
 }

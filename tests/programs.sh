@@ -1,5 +1,5 @@
-# What tests/gridcheck and tests/roundtrip share: inputs made from grid G's 148 bytes and from an image of edition 2, and the comparison of
-# what a program prints.
+# What tests/gridcheck and tests/roundtrip share: inputs made from grid G's 148 bytes and from images of edition 2, of kinds 0 and 1, and
+# the comparison of what a program prints.
 # To be sourced, with `program` set to the program's name. It is target/bin/NAME, written by `rt ci` or `rt check NAME`.
 # shellcheck shell=bash disable=SC2154
 set -u
@@ -70,6 +70,27 @@ two_grids() {
     numbers 8 51999999600 5000000100
     numbers 4 700 900 4 3
     numbers 4 200 128 0 2
+}
+
+# three_grids: writes an image of kind 1, 276 bytes: G's geometry with latitude corrections of 300, 305 and 310 by row, heights of 430,000
+# at its corners, and in its north-eastern cell a dense grid of 3 rows and columns, spacings 500, with 306, then 307 with 309 between them,
+# then 310, where the corrections above have 305, 307.5 and 310. The longitude corrections are -50.
+three_grids() {
+    local latitude
+    for latitude in 306 306 306 307 309 307 310 310 310; do
+        numbers 4 $latitude -50
+    done
+    numbers 8 52000001000 5000001000
+    numbers 4 500 500 3 3 276
+    for latitude in 300 300 300 305 305 305 310 310 310; do
+        numbers 4 $latitude -50
+    done
+    numbers 4 430000 430000 430000 430000
+    numbers 8 52000000000 5000000000
+    numbers 4 1000 1000 3 3
+    numbers 8 52000000000 5000000000
+    numbers 4 2000 2000 2 2
+    numbers 4 168 96 1 2
 }
 
 # padded SIZE: the name of a file of so many bytes that ends in G's.

@@ -49,13 +49,15 @@ fn require_answers(grid: &Grid, fixes: &[i64]) {
     }
 }
 
-/// Fixes on, near and past the corrections' bounds, and as many for the heights' own.
+/// Fixes on, near and past the corrections' bounds, and as many for the heights' own and for those
+/// of a dense grid.
 fn others(grid: &Grid) -> Vec<i64> {
-    let mut others = fixes::anywhere(&grid.corrections, OTHER_FIXES);
-    if grid.edition == Edition::Second {
-        others.extend(fixes::anywhere(&grid.heights, OTHER_FIXES));
-    }
-    others
+    let heights = (grid.edition != Edition::First).then_some(&grid.heights);
+    let geometries = [Some(&grid.corrections), heights, grid.dense.as_ref()];
+    let geometries = geometries.into_iter().flatten();
+    geometries
+        .flat_map(|it| fixes::anywhere(it, OTHER_FIXES))
+        .collect()
 }
 
 /// How far the answers of the f64 implementation and PROJ's lie from the library's. Every fix must

@@ -21,8 +21,7 @@ pub struct Counts {
 }
 
 pub fn count(plan: &Plan) -> Counts {
-    let edition = plan.edition.number();
-    eprintln!("edition {edition}: instructions");
+    eprintln!("{}: instructions", plan.edition.words());
     let of = |case: String| conversion(plan.edition, &case);
     let by_count = (1..=5).map(|count| of(format!("out count {count}")));
     let by_size = plan.sizes.iter();
@@ -38,7 +37,7 @@ pub fn count(plan: &Plan) -> Counts {
 
 /// Instructions of one conversion of a case, by each implementation.
 fn conversion(edition: Edition, case: &str) -> Three {
-    let edition = edition.number();
+    let edition = edition.word();
     ["library", "plain", "floating"].map(|implementation| {
         let one = instructions(&format!("{edition} {implementation} {case} 1"));
         let two = instructions(&format!("{edition} {implementation} {case} 2"));

@@ -4,7 +4,7 @@
 mod tests;
 
 use crate::fixes::mixed;
-use crate::grid::{Geometry, CORRECTION_SPACINGS, HEIGHT_SPACINGS};
+use crate::grid::{middle_of, Geometry, CORRECTION_SPACINGS, HEIGHT_SPACINGS};
 use crate::{gsb, gtx, library, plain, FileConversion};
 
 /// The kinds of files.
@@ -78,33 +78,64 @@ impl FileKind {
         }
     }
 
-    /// The bytes of the nodes that a file of this length becomes.
-    pub fn nodes_length(self, file_length: usize) -> usize {
+    /// The bytes of the nodes that a file which is converted becomes, and of those of its subgrid.
+    pub fn nodes_lengths(self, file: &[u8]) -> [usize; 2] {
         match self {
-            FileKind::Vdatum => file_length - gtx::HEADER_BYTES,
-            FileKind::Ntv2 => (file_length - gsb::HEADERS_BYTES - gsb::END_BYTES) / 2,
+            FileKind::Vdatum => [file.len() - gtx::HEADER_BYTES, 0],
+            FileKind::Ntv2 => gsb::nodes(file).map(|it| 8 * it),
         }
+    }
+
+    /// The nodes of a file that is converted, its subgrid's among them.
+    pub fn nodes(self, file: &[u8]) -> usize {
+        let node = match self {
+            FileKind::Vdatum => 4,
+            FileKind::Ntv2 => 8,
+        };
+        self.nodes_lengths(file).iter().sum::<usize>() / node
     }
 
     /// A made-up file that is converted, around 52 degrees north and 5 degrees east.
     pub fn made_up(self, values: Values, rows: u32, columns: u32) -> Vec<u8> {
-        let range = self.range();
-        let value = |row: u32, column: u32, value: u64| {
-            let index = u64::from(row) << 32 | u64::from(column);
-            values.float(&range, index | value << 16)
-        };
         match self {
             FileKind::Vdatum => {
                 let geometry = Geometry::national(HEIGHT_SPACINGS, rows, columns);
-                gtx::bytes(&geometry, |row, column| value(row, column, 0))
+                gtx::bytes(&geometry, |row, column| self.value(values, row, column, 0))
             }
             FileKind::Ntv2 => {
                 let geometry = Geometry::national(CORRECTION_SPACINGS, rows, columns);
-                gsb::bytes(&geometry, |row, column| {
-                    [0, 1].map(|it| value(row, column, it))
-                })
+                self.shifts_over(values, &geometry, 0)
             }
         }
+    }
+
+    /// The same file with a subgrid over the middle of its grid, and the subgrid's geometry; none
+    /// of VDatum, whose files have no subgrid.
+    pub fn made_up_nested(
+        self,
+        values: Values,
+        rows: u32,
+        columns: u32,
+    ) -> Option<(Vec<u8>, Geometry)> {
+        let subgrid = middle_of(&Geometry::national(CORRECTION_SPACINGS, rows, columns));
+        (self == FileKind::Ntv2).then(|| {
+            let first = self.made_up(values, rows, columns);
+            let second = self.shifts_over(values, &subgrid, 2);
+            (gsb::with_subgrid(first, second), subgrid)
+        })
+    }
+
+    /// An NTv2 file of one grid, its values made from this number on.
+    fn shifts_over(self, values: Values, geometry: &Geometry, from: u64) -> Vec<u8> {
+        gsb::bytes(geometry, |row, column| {
+            [from, from + 1].map(|it| self.value(values, row, column, it))
+        })
+    }
+
+    /// The value of a row and a column with a number below 4.
+    fn value(self, values: Values, row: u32, column: u32, number: u64) -> f32 {
+        let index = u64::from(row) << 32 | u64::from(column);
+        values.float(&self.range(), index | number << 16)
     }
 
     fn range(self) -> Range {

@@ -1,22 +1,55 @@
 //! Made-up fixes, the same in every run.
 
-use crate::grid::Geometry;
+use crate::grid::{Geometry, Grid};
 
 /// Distance from the bounds within which no fix is made, so that every fix is answered.
 const MARGIN: i64 = 10_000_000;
 
-/// So many fixes spread over the grid, each at least 10,000,000 nd inside, with heights from 0 to
-/// 100 m.
+/// So many fixes spread over the corrections, each at least 10,000,000 nd inside, with heights from
+/// 0 to 100 m. With a dense grid every other one lies in its bounds.
+pub fn spread_over(grid: &Grid, count: usize) -> Vec<i64> {
+    let anywhere = inner(&grid.corrections);
+    let every_other = grid.dense.as_ref().map(|dense| {
+        let bounds = [
+            [dense.south, dense.south + dense.height()],
+            [dense.west, dense.west + dense.width()],
+        ];
+        [0, 1].map(|axis| {
+            let ([low, high], [least, most]) = (bounds[axis], anywhere[axis]);
+            [low.max(least), high.min(most)]
+        })
+    });
+    spread_between([every_other.unwrap_or(anywhere), anywhere], count)
+}
+
+/// So many fixes spread over a geometry, likewise.
 pub fn spread(geometry: &Geometry, count: usize) -> Vec<i64> {
+    spread_between([inner(geometry); 2], count)
+}
+
+/// The bounds in latitude and in longitude within which fixes are made.
+type Bounds = [[i64; 2]; 2];
+
+fn inner(geometry: &Geometry) -> Bounds {
+    let between = |low: i64, extent: i64| [low + MARGIN, low + extent - MARGIN];
+    [
+        between(geometry.south, geometry.height()),
+        between(geometry.west, geometry.width()),
+    ]
+}
+
+/// So many fixes, between these bounds in turn.
+fn spread_between(bounds: [Bounds; 2], count: usize) -> Vec<i64> {
     let mut state = 0;
     let mut below = |limit: i64| {
         state += 1;
         (mixed(state) % limit as u64) as i64
     };
     let mut fixes = Vec::with_capacity(3 * count);
-    for _ in 0..count {
-        fixes.push(geometry.south + MARGIN + below(geometry.height() - 2 * MARGIN + 1));
-        fixes.push(geometry.west + MARGIN + below(geometry.width() - 2 * MARGIN + 1));
+    for index in 0..count {
+        for [low, high] in bounds[index % 2] {
+            fixes.push(low + below(high - low + 1));
+        }
         fixes.push(below(1_000_001));
     }
     fixes

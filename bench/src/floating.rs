@@ -1,19 +1,23 @@
-//! Document 01's formulas, and edition 2's, over f64, with none of their questions and no test of
+//! Document 01's formulas, edition 2's and its kind 1's, over f64, with none of their questions and no test of
 //! an index: what a program reaches that promises nothing. It reads past the image where that or a
 //! fix is unfit, and its answers are near those of the papers, not equal to them.
 
+mod dense;
 mod first;
 mod nodes;
 mod second;
 #[cfg(test)]
 mod tests;
+mod two_grids;
 
 use crate::Way;
 
 /// A list call. The list's lengths must fit, the image be one of edition 1 or 2, and every fix be
 /// answered by the library.
 pub fn list(way: Way, image: &[u8], fixes: &[i64], answers: &mut [i64]) -> i64 {
-    if image.ends_with(&2_u32.to_le_bytes()) {
+    if image.ends_with(&[1, 0, 0, 0, 2, 0, 0, 0]) {
+        dense::list(way, image, fixes, answers)
+    } else if image.ends_with(&2_u32.to_le_bytes()) {
         second::list(way, image, fixes, answers)
     } else {
         first::list(way, image, fixes, answers)

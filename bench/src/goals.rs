@@ -3,7 +3,7 @@
 use crate::file_speeds::FileSpeeds;
 use crate::plan::{LARGEST, SIZE_OF_LENGTHS};
 use crate::speeds::{Conversions, Four};
-use crate::table::{size_words, Measured};
+use crate::table::{size_words, times_as_long, Measured};
 use std::fmt::Write;
 
 /// A ratio that is to be at least so much.
@@ -19,10 +19,10 @@ const PLAIN: usize = 1;
 const FLOATING: usize = 2;
 const PROJ: usize = 3;
 
-pub fn write(editions: &[Measured; 2], files: &[FileSpeeds]) -> String {
+pub fn write(editions: &[Measured; 3], files: &[FileSpeeds]) -> String {
     let mut text = String::from("\n## Goals\n\ngoal | measured | |\n---|---:|---|\n");
     let told = |met: bool| if met { "met" } else { "missed" };
-    let goals = both_editions(editions).into_iter();
+    let goals = all_editions(editions).into_iter();
     let goals = goals.chain(beside_floating(&editions[0]));
     for goal in goals.chain(files.iter().map(of_files)) {
         let (words, measured, wanted) = (goal.words, goal.measured, goal.wanted);
@@ -35,6 +35,11 @@ pub fn write(editions: &[Measured; 2], files: &[FileSpeeds]) -> String {
     let growth = largest(editions.iter().map(growth));
     let words = "instructions of a fix: most / least over an edition's grid sizes is below 1.01";
     let _ = writeln!(text, "{words} | {growth:.3} | {} |", told(growth < 1.01));
+    for (way, slower) in slower_than_kind_0(&editions[2]) {
+        let size = size_words(SIZE_OF_LENGTHS);
+        let words = format!("{way}, {size}: time of kind 1 / kind 0 is at most 1.25");
+        let _ = writeln!(text, "{words} | {slower:.2} | {} |", told(slower <= 1.25));
+    }
     for files in files {
         let (kind, size) = (files.kind.words(), size_words(LARGEST));
         let words = format!("{kind} files of {size}: most seconds of the library are below 1");
@@ -44,8 +49,8 @@ pub fn write(editions: &[Measured; 2], files: &[FileSpeeds]) -> String {
     text
 }
 
-/// The goals over all rows of both editions.
-fn both_editions(editions: &[Measured; 2]) -> [Goal; 3] {
+/// The goals over all rows of both editions, with a dense grid and without.
+fn all_editions(editions: &[Measured; 3]) -> [Goal; 3] {
     let conversions = |other: usize| {
         let rows = editions.iter().flat_map(|it| {
             let speeds = &it.speeds;
@@ -71,14 +76,25 @@ fn both_editions(editions: &[Measured; 2]) -> [Goal; 3] {
     ]
 }
 
+/// How many times as long the library takes with a dense grid, going out and back, on one grid.
+fn slower_than_kind_0(dense: &Measured) -> [(&'static str, f64); 2] {
+    let beside = &dense.speeds.beside_kind_0[row_of_lengths(dense)];
+    [
+        ("out", times_as_long(&beside.out.library)),
+        ("back", times_as_long(&beside.back.library)),
+    ]
+}
+
+/// The row of the grid for the goals on one grid.
+fn row_of_lengths(measured: &Measured) -> usize {
+    let sizes = &mut measured.plan.sizes.iter();
+    let row = sizes.position(|it| *it == SIZE_OF_LENGTHS);
+    row.expect("that size is among the sizes")
+}
+
 /// The goals beside f64, of edition 1 on one grid.
 fn beside_floating(first: &Measured) -> [Goal; 2] {
-    let row = first
-        .plan
-        .sizes
-        .iter()
-        .position(|it| *it == SIZE_OF_LENGTHS);
-    let row: &Conversions = &first.speeds.by_size[row.expect("that size is among the sizes")];
+    let row: &Conversions = &first.speeds.by_size[row_of_lengths(first)];
     let size = size_words(SIZE_OF_LENGTHS);
     let goal = |way: &str, four: Four, wanted: f64| Goal {
         words: format!("{way}, edition 1, {size}: library / f64"),

@@ -1,29 +1,50 @@
-//! Grids as images of editions 1 and 2.
+//! Grids as images of edition 1 and of edition 2, without a dense grid and with one.
 
+mod dense;
 mod made_up;
 #[cfg(test)]
 mod tests;
 
+pub use dense::middle_of;
 pub use made_up::{
     narrow_heights, national, own_heights, wide_heights, with_count, zeros, CORRECTION_SPACINGS,
     HEIGHT_SPACINGS,
 };
 
-/// The editions of the image.
+/// The editions of the image, of the second both kinds.
 #[derive(Clone, Copy, Debug, PartialEq, Eq)]
 pub enum Edition {
     /// The three values together in a node.
     First,
     /// The heights on a grid of their own.
     Second,
+    /// A dense grid inside the corrections too.
+    SecondDense,
 }
 
 impl Edition {
-    /// As the image has it.
-    pub fn number(self) -> u32 {
+    pub const ALL: [Edition; 3] = [Edition::First, Edition::Second, Edition::SecondDense];
+
+    /// In a word of the command line and of a file's name.
+    pub fn word(self) -> &'static str {
         match self {
-            Edition::First => 1,
-            Edition::Second => 2,
+            Edition::First => "1",
+            Edition::Second => "2",
+            Edition::SecondDense => "2-dense",
+        }
+    }
+
+    /// The edition of a word.
+    pub fn of_word(word: &str) -> Option<Edition> {
+        Edition::ALL.into_iter().find(|it| it.word() == word)
+    }
+
+    /// In words of the table.
+    pub fn words(self) -> &'static str {
+        match self {
+            Edition::First => "Edition 1",
+            Edition::Second => "Edition 2",
+            Edition::SecondDense => "Kind 1 (edition 2 with a dense grid)",
         }
     }
 }
@@ -46,6 +67,8 @@ pub struct Grid {
     pub corrections: Geometry,
     /// The heights' geometry, in edition 1 the corrections'.
     pub heights: Geometry,
+    /// The dense corrections' geometry, in kind 1.
+    pub dense: Option<Geometry>,
     pub image: Vec<u8>,
 }
 
@@ -126,8 +149,51 @@ impl Grid {
             edition,
             corrections,
             heights,
+            dense: None,
             image,
         }
+    }
+
+    /// A grid of edition 2 with dense corrections, functions of row and column, before it.
+    pub fn with_dense(
+        mut self,
+        dense: Geometry,
+        correction: impl Fn(u32, u32) -> [i32; 2],
+    ) -> Grid {
+        let back = dense_bytes(&dense) + self.image.len();
+        let mut image = Vec::with_capacity(back);
+        for (row, column) in dense.places() {
+            for value in correction(row, column) {
+                image.extend(value.to_le_bytes());
+            }
+        }
+        image.extend(dense.bytes());
+        image.extend((back as u32).to_le_bytes());
+        image.append(&mut self.image);
+        self.edition = Edition::SecondDense;
+        self.dense = Some(dense);
+        self.image = image;
+        self.put_kind(1);
+        self
+    }
+
+    /// The image of the same grid without its dense corrections.
+    pub fn image_without_dense(&self) -> Vec<u8> {
+        let mut coarse = Grid {
+            image: self.image[self.first()..].to_vec(),
+            ..*self
+        };
+        coarse.put_kind(0);
+        coarse.image
+    }
+
+    /// The bytes before the first node of the corrections that are not dense.
+    fn first(&self) -> usize {
+        self.dense.as_ref().map_or(0, dense_bytes)
+    }
+
+    fn put_kind(&mut self, kind: i32) {
+        self.put(self.image.len() - 8, kind);
     }
 
     /// The corrections of the node of a row and a column.
@@ -141,27 +207,39 @@ impl Grid {
         self.number_at(self.height_at(row, column))
     }
 
-    /// The number of nodes: those of both grids in edition 2.
+    /// The dense corrections of the node of a row and a column.
+    pub fn dense_correction(&self, row: u32, column: u32) -> [i32; 2] {
+        let dense = self.dense.as_ref().expect("a dense grid");
+        let at = 8 * dense.index(row, column);
+        [at, at + 4].map(|at| self.number_at(at))
+    }
+
+    /// The number of nodes: those of all grids.
     pub fn nodes(&self) -> usize {
         match self.edition {
             Edition::First => self.corrections.nodes(),
-            Edition::Second => self.corrections.nodes() + self.heights.nodes(),
+            Edition::Second | Edition::SecondDense => {
+                let dense = self.dense.as_ref().map_or(0, Geometry::nodes);
+                dense + self.corrections.nodes() + self.heights.nodes()
+            }
         }
     }
 
     fn correction_at(&self, row: u32, column: u32) -> usize {
         let node_bytes = match self.edition {
             Edition::First => 12,
-            Edition::Second => 8,
+            Edition::Second | Edition::SecondDense => 8,
         };
-        node_bytes * self.corrections.index(row, column)
+        self.first() + node_bytes * self.corrections.index(row, column)
     }
 
     fn height_at(&self, row: u32, column: u32) -> usize {
         let index = self.heights.index(row, column);
         match self.edition {
             Edition::First => 12 * index + 8,
-            Edition::Second => 8 * self.corrections.nodes() + 4 * index,
+            Edition::Second | Edition::SecondDense => {
+                self.first() + 8 * self.corrections.nodes() + 4 * index
+            }
         }
     }
 
@@ -172,6 +250,11 @@ impl Grid {
     fn put(&mut self, at: usize, value: i32) {
         self.image[at..][..4].copy_from_slice(&value.to_le_bytes());
     }
+}
+
+/// The bytes of dense nodes with the geometry and the back behind them.
+fn dense_bytes(dense: &Geometry) -> usize {
+    8 * dense.nodes() + 36
 }
 
 /// Edition 1's back and trailer.

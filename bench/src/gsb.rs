@@ -1,9 +1,11 @@
-//! NTv2 .gsb files with one grid, as bytes.
+//! NTv2 .gsb files as bytes: with one grid, and with a subgrid.
 
 use crate::grid::Geometry;
 
-/// Bytes before the first node, of a node, and after the last one.
+/// Bytes before the first node, of them those of the grid's header, of a node, and after the last
+/// one.
 pub const HEADERS_BYTES: usize = 352;
+pub const HEADER_BYTES: usize = 176;
 pub const NODE_BYTES: usize = 16;
 pub const END_BYTES: usize = 16;
 
@@ -27,6 +29,31 @@ pub fn bytes(geometry: &Geometry, shifts: impl Fn(u32, u32) -> [f32; 2]) -> Vec<
     }
     put_text(&mut bytes, "END", "");
     bytes
+}
+
+/// Where the value of NUM_FILE begins, and those of the grid's SUB_NAME, PARENT and GS_COUNT.
+const NUM_FILE: usize = 40;
+const SUB_NAME: usize = 184;
+const PARENT: usize = 200;
+const GS_COUNT: usize = 344;
+
+/// Two files of one grid as one: the header and the nodes of the second follow those of the first,
+/// and name it as their parent.
+pub fn with_subgrid(mut file: Vec<u8>, mut sub: Vec<u8>) -> Vec<u8> {
+    file[NUM_FILE] = 2;
+    sub.copy_within(SUB_NAME..SUB_NAME + 8, PARENT);
+    sub[SUB_NAME..SUB_NAME + 8].copy_from_slice(b"DENSE   ");
+    file.truncate(file.len() - END_BYTES);
+    file.extend(&sub[HEADERS_BYTES - HEADER_BYTES..]);
+    file
+}
+
+/// The nodes of the first grid of a file that is converted, and those of its subgrid.
+pub fn nodes(file: &[u8]) -> [usize; 2] {
+    let count = file[GS_COUNT..GS_COUNT + 4].try_into().expect("4 bytes");
+    let first = u32::from_le_bytes(count) as usize;
+    let others = file.len() - HEADERS_BYTES - NODE_BYTES * first - END_BYTES;
+    [first, others.saturating_sub(HEADER_BYTES) / NODE_BYTES]
 }
 
 fn put_overview(bytes: &mut Vec<u8>) {

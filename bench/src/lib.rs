@@ -16,8 +16,17 @@ pub use grid::Edition;
 /// A grid check of an image, that writes its findings and gives its number.
 pub type GridCheck = fn(&[u8], &mut [i64; 6]) -> i64;
 
+/// What the conversion of a file is lent to write to: the nodes, those of a subgrid, and the
+/// geometry, six numbers for each of two grids. VDatum files have no subgrid, and their conversion
+/// is lent the first six numbers alone.
+pub struct FileRoom<'a> {
+    pub nodes: &'a mut [u8],
+    pub dense: &'a mut [u8],
+    pub geometry: &'a mut [i64; 12],
+}
+
 /// A conversion of a file, that writes the nodes and the geometry and gives its number.
-pub type FileConversion = fn(&[u8], &mut [u8], &mut [i64; 6]) -> i64;
+pub type FileConversion = fn(&[u8], FileRoom) -> i64;
 
 /// The implementations of the list call over an image.
 #[derive(Clone, Copy, Debug, PartialEq, Eq)]

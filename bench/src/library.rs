@@ -1,6 +1,6 @@
 //! The built library libmarker.a, through its C interface.
 
-use crate::Way;
+use crate::{FileRoom, Way};
 
 // Safety of the calls: each pointer comes from a slice that lives through the call, with that
 // slice's own length, and only what was lent as changeable is written.
@@ -13,26 +13,28 @@ pub fn grid_check(image: &[u8], findings: &mut [i64; 6]) -> i64 {
     unsafe { binding::marker_grid_check(image.as_ptr(), image.len(), findings.as_mut_ptr()) }
 }
 
-pub fn heights_from_vdatum(file: &[u8], nodes: &mut [u8], geometry: &mut [i64; 6]) -> i64 {
-    convert_file(binding::marker_heights_from_vdatum, file, nodes, geometry)
-}
-
-pub fn corrections_from_ntv2(file: &[u8], nodes: &mut [u8], geometry: &mut [i64; 6]) -> i64 {
-    convert_file(binding::marker_corrections_from_ntv2, file, nodes, geometry)
-}
-
-/// A call that converts a file.
-type FileCall = unsafe extern "C" fn(*const u8, usize, *mut u8, usize, *mut i64) -> i64;
-
-#[inline]
-fn convert_file(call: FileCall, file: &[u8], nodes: &mut [u8], geometry: &mut [i64; 6]) -> i64 {
+pub fn heights_from_vdatum(file: &[u8], room: FileRoom) -> i64 {
     unsafe {
-        call(
+        binding::marker_heights_from_vdatum(
             file.as_ptr(),
             file.len(),
-            nodes.as_mut_ptr(),
-            nodes.len(),
-            geometry.as_mut_ptr(),
+            room.nodes.as_mut_ptr(),
+            room.nodes.len(),
+            room.geometry.as_mut_ptr(),
+        )
+    }
+}
+
+pub fn corrections_from_ntv2(file: &[u8], room: FileRoom) -> i64 {
+    unsafe {
+        binding::marker_corrections_from_ntv2(
+            file.as_ptr(),
+            file.len(),
+            room.nodes.as_mut_ptr(),
+            room.nodes.len(),
+            room.dense.as_mut_ptr(),
+            room.dense.len(),
+            room.geometry.as_mut_ptr(),
         )
     }
 }

@@ -1,9 +1,11 @@
-//! Measures the library, the plain implementations and PROJ over images of both editions, and the
-//! conversion of VDatum and NTv2 files. `bench FOLDER` writes the table and the plot there, as table.md and
-//! plot.svg; `bench --quick` prints a short table of each edition and of the files.
+//! Measures the library, the plain implementations and PROJ over images of both editions, of the
+//! second with a dense grid too, and the conversion of VDatum and NTv2 files. `bench FOLDER` writes
+//! the table and the plot there, as table.md and plot.svg; `bench --quick` prints a short table of
+//! each edition and of the files.
 
 mod agreement;
 mod counts;
+mod dense_agreement;
 mod file_agreement;
 mod file_speeds;
 mod goals;
@@ -28,7 +30,7 @@ use table::Measured;
 fn main() {
     let word = env::args().nth(1).expect("the results' folder or --quick");
     if word == "--quick" {
-        for edition in [Edition::First, Edition::Second] {
+        for edition in Edition::ALL {
             print!("{}", table::edition(&measure(Plan::quick(edition))));
         }
         for files in &file_speeds::measure_all(&FilePlan::quick()) {
@@ -40,13 +42,13 @@ fn main() {
 }
 
 fn write_results(folder: &Path) {
-    let editions = [Edition::First, Edition::Second].map(|it| measure(Plan::whole(it)));
+    let editions = Edition::ALL.map(|it| measure(Plan::whole(it)));
     let files = file_speeds::measure_all(&FilePlan::whole());
     fs::create_dir_all(folder).expect("the results' folder");
     let table = table::write(&editions, &files);
     print!("{table}");
     fs::write(folder.join("table.md"), table).expect("the table");
-    let [first, _] = &editions;
+    let [first, ..] = &editions;
     let plot = plot::write(&first.speeds, &first.counts);
     fs::write(folder.join("plot.svg"), plot).expect("the plot");
 }

@@ -1,6 +1,6 @@
 //! One list call in a process of its own, for callgrind: it collects within `counted_call` alone.
-//! `one-list 1|2 library|plain|floating out|back count C N` calls, over an image of that edition,
-//! with N equal fixes whose way out has the count C; `.. size ROWS COLUMNS N` with N equal fixes
+//! `one-list 1|2|2-dense library|plain|floating out|back count C N` calls, over an image of that
+//! edition, without or with a dense grid, with N equal fixes whose way out has the count C; `.. size ROWS COLUMNS N` with N equal fixes
 //! over a grid of that size; `.. wide C N` with N equal fixes over one with wide height cells, where
 //! the way out has the count C.
 
@@ -22,11 +22,7 @@ pub fn counted_call(
 
 fn main() {
     let words: Vec<String> = std::env::args().skip(1).collect();
-    let edition = match words[0].as_str() {
-        "1" => Edition::First,
-        "2" => Edition::Second,
-        other => panic!("no edition {other}"),
-    };
+    let edition = Edition::of_word(&words[0]).expect("an edition");
     let implementation = match words[1].as_str() {
         "library" => Implementation::Library,
         "plain" => Implementation::Plain,

@@ -1,7 +1,9 @@
-//! A straightforward implementation of document 01, of edition 2 of its image and of VDatum and NTv2
-//! files (document 02, notes 1, 2 and 4), over i128, written for speed.
+//! A straightforward implementation of document 01, of edition 2 of its image, without a dense grid
+//! and with one, and of VDatum and NTv2 files (document 02, notes 1, 2, 4 and 5), over i128, written
+//! for speed.
 
 mod axis;
+mod dense;
 mod file_geometry;
 mod first;
 mod fix;
@@ -13,6 +15,7 @@ mod slopes;
 #[cfg(test)]
 mod tests;
 mod trailer;
+mod two_grids;
 mod vdatum;
 
 pub use ntv2::corrections_from_ntv2;
@@ -24,7 +27,9 @@ use crate::Way;
 type Number = i64;
 
 pub fn list(way: Way, image: &[u8], fixes: &[i64], answers: &mut [i64]) -> Number {
-    if is_second(image) {
+    if is_dense(image) {
+        dense::list(way, image, fixes, answers)
+    } else if is_second(image) {
         second::list(way, image, fixes, answers)
     } else {
         first::list(way, image, fixes, answers)
@@ -32,7 +37,9 @@ pub fn list(way: Way, image: &[u8], fixes: &[i64], answers: &mut [i64]) -> Numbe
 }
 
 pub fn grid_check(image: &[u8], findings: &mut [i64; 6]) -> Number {
-    if is_second(image) {
+    if is_dense(image) {
+        dense::grid_check(image, findings)
+    } else if is_second(image) {
         second::grid_check(image, findings)
     } else {
         first::grid_check(image, findings)
@@ -43,4 +50,21 @@ pub fn grid_check(image: &[u8], findings: &mut [i64; 6]) -> Number {
 /// number of both trailers, and that is 2. Any other is asked edition 1's.
 fn is_second(image: &[u8]) -> bool {
     image.len() >= 40 && image.ends_with(&2_u32.to_le_bytes())
+}
+
+/// Whether it is asked kind 1's questions, which come after the length's: it has edition 2's trailer,
+/// and that ends in kind 1.
+fn is_dense(image: &[u8]) -> bool {
+    image.len() >= 80 && image.ends_with(&[1, 0, 0, 0, 2, 0, 0, 0])
+}
+
+/// Writes the findings and gives 0, or gives the number.
+fn found(findings: &mut [i64; 6], checked: Result<[i64; 6], Number>) -> Number {
+    match checked {
+        Ok(steps) => {
+            *findings = steps;
+            0
+        }
+        Err(number) => number,
+    }
 }

@@ -30,6 +30,9 @@ pub const SIZES: [Size; 5] = [(3, 3), (64, 64), (481, 301), (1_024, 1_024), (4_0
 /// Those of the largest file, whose conversion is to take less than a second.
 pub const LARGEST: Size = SIZES[4];
 
+/// Those of the first grid of a file with a subgrid.
+pub const SIZE_OF_SUBGRIDS: Size = SIZES[2];
+
 /// Those of the grids with wide height cells.
 pub const WIDE_SIZES: [Size; 2] = [SIZES[2], SIZES[4]];
 
@@ -52,8 +55,8 @@ impl Plan {
             edition,
             sizes: &SIZES,
             wide_sizes: match edition {
-                Edition::First => &[],
                 Edition::Second => &WIDE_SIZES,
+                Edition::First | Edition::SecondDense => &[],
             },
             lengths: &LENGTHS,
             repeats: 51,

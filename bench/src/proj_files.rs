@@ -6,14 +6,17 @@ use std::fs;
 use std::io::Result;
 use std::path::Path;
 
-/// The corrections, seconds of arc in 32-bit floating point.
+/// The corrections, seconds of arc in 32-bit floating point; dense ones as a subgrid.
 pub fn write_gsb(grid: &Grid, path: &Path) -> Result<()> {
     let seconds = |nd: i32| (f64::from(nd) * gsb::SECONDS) as f32;
-    let shifts = |row, column| {
-        let [latitude, longitude] = grid.correction(row, column);
-        [seconds(latitude), seconds(-longitude)]
-    };
-    fs::write(path, gsb::bytes(&grid.corrections, shifts))
+    let shifts = |[latitude, longitude]: [i32; 2]| [seconds(latitude), seconds(-longitude)];
+    let corrections = |row, column| shifts(grid.correction(row, column));
+    let mut file = gsb::bytes(&grid.corrections, corrections);
+    if let Some(dense) = &grid.dense {
+        let corrections = |row, column| shifts(grid.dense_correction(row, column));
+        file = gsb::with_subgrid(file, gsb::bytes(dense, corrections));
+    }
+    fs::write(path, file)
 }
 
 /// The heights with their own geometry.

@@ -1,6 +1,7 @@
 //! The measurements: conversions and checked nodes per second.
 
 use crate::agreement::{self, Distance};
+use crate::dense_agreement;
 use crate::measure::{median_seconds, Work};
 use crate::plan::{Plan, LENGTH_OF_DISTANCE, LENGTH_OF_SIZES, SIZE_OF_LENGTHS};
 use crate::proj::{self, Pipeline};
@@ -26,8 +27,12 @@ pub struct Speeds {
     pub wide: Vec<Conversions>,
     /// Nodes per second of the library and the plain implementation, by grid size.
     pub checks: Vec<[f64; 2]>,
+    /// With a dense grid: the conversions without it and with it, by grid size.
+    pub beside_kind_0: Vec<BesideKind0>,
     /// How far the answers of the f64 implementation and PROJ's lie from the library's.
     pub distances: [Distance; 2],
+    /// With a dense grid: images that both whole-number implementations refused with the same number.
+    pub refused: usize,
 }
 
 /// Conversions per second, and the mean count of the ways out.
@@ -35,6 +40,18 @@ pub struct Conversions {
     pub out: Four,
     pub back: Four,
     pub mean_count: f64,
+}
+
+/// Conversions of the same fixes over the same grid, without a dense grid and with one.
+pub struct BesideKind0 {
+    pub out: Beside,
+    pub back: Beside,
+}
+
+/// Conversions per second without and with it.
+pub struct Beside {
+    pub library: [f64; 2],
+    pub plain: [f64; 2],
 }
 
 /// A grid, PROJ's pipeline over it, and the number of measurements of one piece of work.
@@ -47,8 +64,10 @@ struct Bench {
 pub fn measure(plan: &Plan) -> Speeds {
     let folder = Folder::new();
     let mut speeds = Speeds::default();
-    if plan.edition == Edition::Second {
-        agreement::require_off_heights();
+    match plan.edition {
+        Edition::First => {}
+        Edition::Second => agreement::require_off_heights(),
+        Edition::SecondDense => speeds.refused = dense_agreement::require_refusals(),
     }
     for &(rows, columns) in plan.sizes {
         let grid = grid::national(plan.edition, rows, columns);
@@ -56,6 +75,9 @@ pub fn measure(plan: &Plan) -> Speeds {
         let bench = Bench::over(grid, plan, &folder);
         speeds.by_size.push(bench.conversions(LENGTH_OF_SIZES));
         speeds.checks.push(bench.check_speeds());
+        if plan.edition == Edition::SecondDense {
+            speeds.beside_kind_0.push(bench.beside_kind_0());
+        }
         if (rows, columns) == SIZE_OF_LENGTHS && !plan.lengths.is_empty() {
             bench.measure_lengths(plan.lengths, &mut speeds);
         }
@@ -71,7 +93,7 @@ pub fn measure(plan: &Plan) -> Speeds {
 
 /// PROJ's pipeline over the grid's files, which are written first.
 fn opened(grid: &Grid, folder: &Folder) -> Pipeline {
-    let (edition, size) = (grid.edition.number(), &grid.corrections);
+    let (edition, size) = (grid.edition.word(), &grid.corrections);
     let heights = grid.heights.rows;
     let name = format!("{edition}-{}x{}-{heights}", size.rows, size.columns);
     let gsb = folder.0.join(format!("{name}.gsb"));
@@ -81,10 +103,23 @@ fn opened(grid: &Grid, folder: &Folder) -> Pipeline {
     Pipeline::open(&gsb, &gtx)
 }
 
+/// A list call of an implementation.
+fn list_work<'a>(
+    implementation: Implementation,
+    way: Way,
+    image: &'a [u8],
+    list: &'a [i64],
+) -> Work<'a> {
+    let mut answers = vec![0; list.len() / 3 * 5];
+    Box::new(move || {
+        implementation.list(way, black_box(image), black_box(list), &mut answers);
+        black_box(&answers);
+    })
+}
+
 impl Bench {
     fn over(grid: Grid, plan: &Plan, folder: &Folder) -> Bench {
-        let edition = plan.edition.number();
-        eprintln!("edition {edition}: grid of {}", grid_words(&grid));
+        eprintln!("{}: grid of {}", plan.edition.words(), grid_words(&grid));
         Bench {
             pipeline: opened(&grid, folder),
             grid,
@@ -97,13 +132,13 @@ impl Bench {
             eprintln!("list of {length}");
             speeds.by_length.push(self.conversions(*length));
         }
-        let list = fixes::spread(&self.grid.corrections, LENGTH_OF_DISTANCE);
+        let list = fixes::spread_over(&self.grid, LENGTH_OF_DISTANCE);
         speeds.distances = agreement::distances(&self.grid, &self.pipeline, &list);
     }
 
     /// The conversions of a list of so many fixes.
     fn conversions(&self, length: usize) -> Conversions {
-        let list = fixes::spread(&self.grid.corrections, length);
+        let list = fixes::spread_over(&self.grid, length);
         agreement::require(&self.grid, &list);
         let mut answers = vec![0; 5 * length];
         let image = &self.grid.image;
@@ -119,25 +154,44 @@ impl Bench {
 
     fn list_speeds(&self, way: Way, list: &[i64]) -> Four {
         let count = list.len() / 3;
-        let list_work = |implementation: Implementation| -> Work {
-            let mut answers = vec![0; 5 * count];
-            Box::new(move || {
-                let image = black_box(&self.grid.image);
-                implementation.list(way, image, black_box(list), &mut answers);
-                black_box(&answers);
-            })
-        };
         let given = proj::positions(list);
         let mut positions = given.clone();
         let proj_work: Work = Box::new(move || {
             positions.copy_from_slice(&given);
             self.pipeline.convert(way, black_box(&mut positions));
         });
-        let mut works = Implementation::ALL.map(list_work);
+        let mut works = Implementation::ALL.map(|it| list_work(it, way, &self.grid.image, list));
         let [library, plain, floating] = median_seconds(&mut works, self.repeats);
         // By itself: a program runs slower right after PROJ.
         let [proj] = median_seconds(&mut [proj_work], self.repeats);
         [library, plain, floating, proj].map(|seconds| count as f64 / seconds)
+    }
+
+    /// The library and the i128 implementation over the same grid without its dense corrections and
+    /// with them, in turn.
+    fn beside_kind_0(&self) -> BesideKind0 {
+        let list = fixes::spread_over(&self.grid, LENGTH_OF_SIZES);
+        let without = self.grid.image_without_dense();
+        let beside = |way: Way| {
+            let work = |implementation, image| list_work(implementation, way, image, &list);
+            let mut works = [
+                work(Implementation::Library, &without),
+                work(Implementation::Library, &self.grid.image),
+                work(Implementation::Plain, &without),
+                work(Implementation::Plain, &self.grid.image),
+            ];
+            let seconds = median_seconds(&mut works, self.repeats);
+            let [first, second, third, fourth] =
+                seconds.map(|seconds| LENGTH_OF_SIZES as f64 / seconds);
+            Beside {
+                library: [first, second],
+                plain: [third, fourth],
+            }
+        };
+        BesideKind0 {
+            out: beside(Way::Out),
+            back: beside(Way::Back),
+        }
     }
 
     fn check_speeds(&self) -> [f64; 2] {

@@ -6,7 +6,7 @@ use crate::file_speeds::FileSpeeds;
 use crate::goals;
 use crate::machine;
 use crate::plan::{Plan, Size, LENGTH_OF_DISTANCE, LENGTH_OF_SIZES, SIZE_OF_LENGTHS};
-use crate::speeds::{Conversions, Four, Speeds};
+use crate::speeds::{Beside, BesideKind0, Conversions, Four, Speeds};
 use bench::grid::{Geometry, Grid};
 use bench::Edition;
 use std::fmt::Write;
@@ -21,7 +21,7 @@ pub struct Measured {
     pub counts: Counts,
 }
 
-pub fn write(editions: &[Measured; 2], files: &[FileSpeeds]) -> String {
+pub fn write(editions: &[Measured; 3], files: &[FileSpeeds]) -> String {
     let mut text = String::from("# Speed of the conversion\n\n");
     text += &machine::words();
     let _ = writeln!(
@@ -50,7 +50,7 @@ pub fn edition(measured: &Measured) -> String {
         counts,
     } = measured;
     let (length, size) = (grouped(LENGTH_OF_SIZES as f64), size_words(SIZE_OF_LENGTHS));
-    let head = format!("\n## Edition {}:", plan.edition.number());
+    let head = format!("\n## {}:", plan.edition.words());
     let mut text = String::new();
     let of_size = format!("by grid size (lists of {length} fixes)");
     let _ = writeln!(text, "{head} conversions per second, {of_size}");
@@ -66,9 +66,15 @@ pub fn edition(measured: &Measured) -> String {
         let _ = writeln!(text, "{head} conversions per second, {of_cells}");
         text += &conversions("grid", &speeds.wide_sizes, &speeds.wide);
     }
+    if !speeds.beside_kind_0.is_empty() {
+        let beside = "conversions per second beside kind 0, on the same fixes";
+        let _ = writeln!(text, "{head} {beside}");
+        text += &beside_kind_0(&speeds.sizes, &speeds.beside_kind_0);
+    }
     let nodes = match plan.edition {
         Edition::First => "nodes",
         Edition::Second => "nodes of both grids",
+        Edition::SecondDense => "nodes of all three grids",
     };
     let _ = writeln!(text, "{head} grid check, {nodes} per second\n");
     text += &checks(&speeds.sizes, &speeds.checks);
@@ -100,17 +106,42 @@ pub fn size_words((rows, columns): Size) -> String {
     format!("{rows} × {columns}")
 }
 
-/// Rows and columns of the corrections, and of the heights where these have their own.
+/// Rows and columns of the corrections, of the heights where these have their own, and of dense
+/// corrections.
 pub fn grid_words(grid: &Grid) -> String {
     let words = |it: &Geometry| size_words((it.rows, it.columns));
-    match grid.edition {
-        Edition::First => words(&grid.corrections),
-        Edition::Second => format!(
-            "{}, heights {}",
-            words(&grid.corrections),
-            words(&grid.heights)
-        ),
+    let mut text = words(&grid.corrections);
+    if grid.edition != Edition::First {
+        let _ = write!(text, ", heights {}", words(&grid.heights));
     }
+    if let Some(dense) = &grid.dense {
+        let _ = write!(text, ", dense {}", words(dense));
+    }
+    text
+}
+
+fn beside_kind_0(names: &[String], rows: &[BesideKind0]) -> String {
+    let of_way = |way, beside: Vec<&Beside>| {
+        let mut text = format!("\n{way}: grid | library, kind 0 | library, kind 1 |");
+        text += " library: time of kind 1 / kind 0 | i128: time of kind 1 / kind 0 |\n";
+        text += "---|---:|---:|---:|---:|\n";
+        for (name, Beside { library, plain }) in names.iter().zip(beside) {
+            let [without, with] = library.map(grouped);
+            let [slower, plain_slower] = [library, plain].map(times_as_long);
+            let _ = writeln!(
+                text,
+                "{name} | {without} | {with} | {slower:.2} | {plain_slower:.2} |"
+            );
+        }
+        text
+    };
+    let out = of_way("out", rows.iter().map(|it| &it.out).collect());
+    out + &of_way("back", rows.iter().map(|it| &it.back).collect())
+}
+
+/// How many times as long a conversion takes with a dense grid.
+pub fn times_as_long([without, with]: &[f64; 2]) -> f64 {
+    without / with
 }
 
 fn conversions(first: &str, names: &[String], rows: &[Conversions]) -> String {
@@ -182,27 +213,30 @@ fn instructions(sizes: &[String], counts: &Counts) -> String {
     text
 }
 
-fn agreement(editions: &[Measured; 2], files: &[FileSpeeds]) -> String {
+fn agreement(editions: &[Measured; 3], files: &[FileSpeeds]) -> String {
     let [others, taken] = [OTHER_FIXES, LENGTH_OF_DISTANCE].map(|count| grouped(count as f64));
     let size = size_words(SIZE_OF_LENGTHS);
+    let refused: usize = editions.iter().map(|it| it.speeds.refused).sum();
     let mut text = format!(
         "\n## Agreement\n\nThe library and the i128 implementation gave the same answers to all \
          fixes above, and to {others} more on, near and past the bounds of each grid of \
-         corrections and, in edition 2, of heights; also over an image of edition 2 whose heights \
-         leave out part of the corrections, where fixes get number 15. They converted all files \
+         corrections, in edition 2 of heights and in kind 1 of dense corrections; also over an \
+         image of edition 2 whose heights leave out part of the corrections, where fixes get \
+         number 15; and they refused {refused} changed images of kind 1 with the same number, 20 \
+         and 21 among them. They converted all files \
          above to the same nodes and geometry, and refused others with the same number and nothing \
          changed: {}. On the grids of {size} the answers to {taken} fixes lie at most so far from \
          the library's:\n\n",
         refused_words(files)
     );
-    text += "edition | f64, nd | f64, units | PROJ, nd | PROJ, units |\n";
+    text += "image | f64, nd | f64, units | PROJ, nd | PROJ, units |\n";
     text += "---|---:|---:|---:|---:|\n";
     for Measured { plan, speeds, .. } in editions {
         let [floating, proj] = speeds.distances;
         let _ = writeln!(
             text,
             "{} | {:.0} | {:.0} | {:.2} | {:.2} |",
-            plan.edition.number(),
+            plan.edition.words(),
             floating.angle,
             floating.height,
             proj.angle,

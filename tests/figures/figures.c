@@ -1,37 +1,25 @@
 /* The figures of document 01, starred and unstarred, each by name, put to the built library; the points of docs/ROUNDING.md; and figures
- * of our own for images of edition 2, for VDatum files and for NTv2 files, which document 02 has none for. Prints `ok NAME` or
- * `FAILED NAME`. */
-#include <inttypes.h>
-#include <stdio.h>
+ * of our own for images of edition 2, of kinds 0 and 1, which document 02 has none for. Prints `ok NAME` or `FAILED NAME`. */
 #include <string.h>
 
 #include "marker.h"
+#include "told.h"
 
 #define SOUTH INT64_C(52000000000)
 #define WEST INT64_C(5000000000)
 
-/* G has 148 bytes, the image of edition 2 below 200. */
-enum { ONE_GRID = 9 * 12 + 40, TWO_GRIDS = 9 * 8 + 12 * 4 + 80 };
-
-struct image {
-    uint8_t bytes[TWO_GRIDS];
-    size_t length;
+/* G has 148 bytes, the image of edition 2 below 200, that with a dense grid 276. */
+enum {
+    ONE_GRID = 9 * 12 + 40,
+    TWO_GRIDS = 9 * 8 + 12 * 4 + 80,
+    DENSE_TRAILER = 9 * 8,
+    THREE_GRIDS = DENSE_TRAILER + 36 + 9 * 8 + 4 * 4 + 80
 };
 
-static int failures = 0;
-
-static void tell(const char *name, bool right) {
-    printf("%s figure: %s\n", right ? "ok" : "FAILED", name);
-    failures += right ? 0 : 1;
-}
-
-/* A number of so many bytes, the lowest first. */
-static uint8_t *put(uint8_t *at, int64_t value, int bytes) {
-    for (int i = 0; i < bytes; i++) {
-        *at++ = (uint8_t)((uint64_t)value >> (8 * i));
-    }
-    return at;
-}
+struct image {
+    uint8_t bytes[THREE_GRIDS];
+    size_t length;
+};
 
 /* The geometry of a grid, by the offsets of its south-west corner. */
 static uint8_t *put_geometry(uint8_t *at, const int64_t corner[2], const int64_t spacings[2], const int64_t lines[2]) {
@@ -69,6 +57,30 @@ static void two_grids(struct image *image, int64_t row_step, int64_t column_step
     at = put_geometry(at, (int64_t[]){-400, 100}, (int64_t[]){700, 900}, (int64_t[]){4, 3});
     put(put(put(put(at, TWO_GRIDS, 4), 12 * 4 + 80, 4), 0, 4), 2, 4);
     image->length = TWO_GRIDS;
+}
+
+/* Correction nodes with these latitude corrections, and longitude corrections of -50. */
+static uint8_t *put_corrections(uint8_t *at, const int64_t latitude[9]) {
+    for (int node = 0; node < 9; node++) {
+        at = put(put(at, latitude[node], 4), -50, 4);
+    }
+    return at;
+}
+
+/* Kind 1, the image of crates/rules/proofs/DenseGrid.antt: G's geometry with latitude corrections of 300, 305 and 310 by row, heights of
+ * 430,000 at its corners, and in its north-eastern cell a dense grid of 3 rows and columns with a first row, a second one with its sides
+ * and its middle, and a third one of 310. The corrections above are 305, 307.5 and 310 there. */
+static void three_grids(struct image *image, int64_t south, int64_t side, int64_t middle) {
+    uint8_t *at = put_corrections(image->bytes, (int64_t[]){south, south, south, side, middle, side, 310, 310, 310});
+    at = put_geometry(at, (int64_t[]){1000, 1000}, (int64_t[]){500, 500}, (int64_t[]){3, 3});
+    at = put_corrections(put(at, THREE_GRIDS, 4), (int64_t[]){300, 300, 300, 305, 305, 305, 310, 310, 310});
+    for (int node = 0; node < 4; node++) {
+        at = put(at, 430000, 4);
+    }
+    at = put_geometry(at, (int64_t[]){0, 0}, (int64_t[]){1000, 1000}, (int64_t[]){3, 3});
+    at = put_geometry(at, (int64_t[]){0, 0}, (int64_t[]){2000, 2000}, (int64_t[]){2, 2});
+    put(put(put(put(at, 9 * 8 + 4 * 4 + 80, 4), 4 * 4 + 80, 4), 1, 4), 2, 4);
+    image->length = THREE_GRIDS;
 }
 
 typedef int64_t way(const uint8_t *, size_t, const int64_t *, size_t, int64_t *, size_t);
@@ -177,12 +189,79 @@ static void figures_of_edition_2(void) {
     tell("edition 2: height steps 4 and 4 give 12", check_refuses(&image, 12));
 }
 
+/* Expected values as the independent reference computes them (tests/reference/tests/dense/corner_cell.rs). */
+static void figures_of_kind_1(void) {
+    struct image image;
+    three_grids(&image, 306, 307, 309);
+    tell("kind 1: passes with 5 0 0 0 0 0, the coarse steps", passes(&image, (int64_t[]){5, 0, 0, 0, 0, 0}));
+    const struct {
+        const char *name;
+        int64_t fix[MARKER_FIX_LENGTH], values[MARKER_NUMBER];
+    } back[] = {
+        {"kind 1: back (1500, 1500), a dense node", {1500, 1500, 0}, {1809, 1450, 430000, 1}},
+        {"kind 1: back (1000, 1500), on the southern dense bound", {1000, 1500, 0}, {1306, 1450, 430000, 1}},
+        {"kind 1: back (999, 1500), south of it", {999, 1500, 0}, {1304, 1450, 430000, 1}},
+        {"kind 1: back (1500, 1000), on the western dense bound", {1500, 1000, 0}, {1807, 950, 430000, 1}},
+        {"kind 1: back (1500, 999), west of it", {1500, 999, 0}, {1808, 949, 430000, 1}},
+        {"kind 1: back (2000, 2000), on the far bounds", {2000, 2000, 0}, {2310, 1950, 430000, 1}},
+    };
+    for (size_t i = 0; i < sizeof back / sizeof *back; i++) {
+        tell(back[i].name, gives(marker_list_back, &image, back[i].fix, back[i].values));
+    }
+    tell("kind 1: back (2001, 2000) gives 8", refuses(marker_list_back, &image, (int64_t[]){2001, 2000, 0}, 8));
+    tell("kind 1: out (1809, 1450)", gives(marker_list_out, &image, (int64_t[]){1809, 1450, 430000}, (int64_t[]){1500, 1500, 0, 2}));
+    tell("kind 1: out (1304, 1450) ends south of the dense grid",
+         gives(marker_list_out, &image, (int64_t[]){1304, 1450, 430000}, (int64_t[]){999, 1500, 0, 2}));
+    tell("kind 1: out (1305, 1450) ends on its bound",
+         gives(marker_list_out, &image, (int64_t[]){1305, 1450, 430000}, (int64_t[]){1000, 1500, 0, 2}));
+    tell("kind 1: out (900, 1450) stops after a step of 2",
+         gives(marker_list_out, &image, (int64_t[]){900, 1450, 430000}, (int64_t[]){597, 1500, 0, 2}));
+    put(image.bytes + THREE_GRIDS - 8, 0, 4);
+    tell("kind 1 said to be kind 0: out (900, 1450) goes on",
+         gives(marker_list_out, &image, (int64_t[]){900, 1450, 430000}, (int64_t[]){597, 1500, 0, 3}));
+}
+
+/* Is this the number of the check over the image of kind 1 with a number of 4 bytes put at a place? */
+static bool dense_refused(size_t place, int64_t value, int64_t number) {
+    struct image image;
+    three_grids(&image, 306, 307, 309);
+    put(image.bytes + place, value, 4);
+    return check_refuses(&image, number);
+}
+
+/* The border and the slopes of the dense grid, its 36 bytes and the back that leads to them. */
+static void refusals_of_kind_1(void) {
+    struct image image;
+    three_grids(&image, 304, 307, 307);
+    tell("kind 1: a border 1 nd below passes", passes(&image, (int64_t[]){5, 0, 0, 0, 0, 0}));
+    three_grids(&image, 307, 307, 308);
+    tell("kind 1: a border 2 nd above gives 21", check_refuses(&image, 21));
+    three_grids(&image, 306, 309, 309);
+    tell("kind 1: 309 beside 307.5 gives 21", check_refuses(&image, 21));
+    three_grids(&image, 306, 307, 310);
+    tell("kind 1: dense steps of 4 and 3 give 12", check_refuses(&image, 12));
+    tell("kind 1: the last corner 2 nd off gives 21", dense_refused(DENSE_TRAILER - 8, 308, 21));
+    tell("kind 1: a dense longitude of 10,000,001 gives 9", dense_refused(4, 10000001, 9));
+    tell("kind 1: a correction back of 241 gives 1", dense_refused(THREE_GRIDS - 16, 241, 1));
+    tell("kind 1: one dense row gives 3", dense_refused(DENSE_TRAILER + 24, 1, 3));
+    tell("kind 1: a dense spacing of 0 gives 4", dense_refused(DENSE_TRAILER + 16, 0, 4));
+    tell("kind 1: a far southern dense bound gives 5", dense_refused(DENSE_TRAILER + 4, INT32_MAX, 5));
+    tell("kind 1: another dense back gives 6", dense_refused(DENSE_TRAILER + 32, THREE_GRIDS - 36, 6));
+    tell("kind 1: a dense grid 1 nd further east gives 20", dense_refused(DENSE_TRAILER + 8, (WEST + 1001) & 0xFFFFFFFF, 20));
+    tell("kind 1: a dense spacing of 499 gives 20", dense_refused(DENSE_TRAILER + 16, 499, 20));
+    three_grids(&image, 306, 307, 309);
+    put(image.bytes + DENSE_TRAILER + 16, 250, 4);
+    int64_t untouched[1] = {7};
+    tell("kind 1: 20 comes before 14",
+         marker_list_out(image.bytes, image.length, untouched, 1, untouched, 1) == 20 && untouched[0] == 7);
+}
+
 /* Edition 2's trailer and nodes broken, one at a time. */
 static void refusals_of_edition_2(void) {
     struct image image;
     two_grids(&image, 3, 4);
-    put(image.bytes + TWO_GRIDS - 8, 1, 4);
-    tell("edition 2: kind 1 gives 2", check_refuses(&image, 2));
+    put(image.bytes + TWO_GRIDS - 8, 2, 4);
+    tell("edition 2: kind 2 gives 2", check_refuses(&image, 2));
     two_grids(&image, 3, 4);
     memmove(image.bytes, image.bytes + TWO_GRIDS - 79, 79);
     image.length = 79;
@@ -193,212 +272,6 @@ static void refusals_of_edition_2(void) {
     two_grids(&image, 3, 4);
     put(image.bytes + TWO_GRIDS - 84, 1000001, 4);
     tell("edition 2: one height of 1,000,001 gives 9", check_refuses(&image, 9));
-}
-
-/* Grid files of 2 rows and 3 columns, of VDatum with 64 bytes and of NTv2 with 464, and their nodes, 24 and 48. */
-enum {
-    NODES = 6,
-    HEIGHTS_LENGTH = NODES * MARKER_HEIGHT_NODE_LENGTH,
-    VDATUM_LENGTH = MARKER_VDATUM_HEADER_LENGTH + NODES * MARKER_VDATUM_NODE_LENGTH,
-    CORRECTIONS_LENGTH = NODES * MARKER_CORRECTION_NODE_LENGTH,
-    NTV2_LENGTH = MARKER_NTV2_HEADERS_LENGTH + NODES * MARKER_NTV2_NODE_LENGTH + MARKER_NTV2_END_LENGTH
-};
-
-typedef int64_t conversion(const uint8_t *, size_t, uint8_t *, size_t, int64_t *);
-typedef uint8_t *writer(uint8_t *, int64_t, int);
-
-/* A file with its conversion and how its numbers are written, and with one byte more for a length that is wrong. */
-struct file {
-    conversion *convert;
-    writer *put;
-    size_t length, nodes_length;
-    uint8_t bytes[NTV2_LENGTH + 1];
-};
-
-/* A number of so many bytes, the highest first. */
-static uint8_t *put_high_first(uint8_t *at, int64_t value, int bytes) {
-    for (int i = bytes - 1; i >= 0; i--) {
-        *at++ = (uint8_t)((uint64_t)value >> (8 * i));
-    }
-    return at;
-}
-
-/* Is this what the file becomes, its nodes by their numbers of 4 bytes? */
-static bool converts(const struct file *file, const int64_t numbers[], const int64_t wanted[MARKER_GEOMETRY_LENGTH]) {
-    uint8_t nodes[CORRECTIONS_LENGTH], wanted_nodes[CORRECTIONS_LENGTH];
-    int64_t geometry[MARKER_GEOMETRY_LENGTH];
-    for (size_t i = 0; i < file->nodes_length / 4; i++) {
-        put(wanted_nodes + 4 * i, numbers[i], 4);
-    }
-    return file->convert(file->bytes, file->length, nodes, file->nodes_length, geometry) == MARKER_DONE &&
-           memcmp(nodes, wanted_nodes, file->nodes_length) == 0 && memcmp(geometry, wanted, sizeof geometry) == 0;
-}
-
-/* Is this the number of a file and a buffer of these lengths, and are buffer and geometry as they were? */
-static bool file_refused(const struct file *file, size_t file_length, size_t nodes_length, int64_t number) {
-    uint8_t nodes[CORRECTIONS_LENGTH + 1], nodes_before[CORRECTIONS_LENGTH + 1];
-    int64_t geometry[MARKER_GEOMETRY_LENGTH], geometry_before[MARKER_GEOMETRY_LENGTH];
-    memset(nodes_before, 0xA5, sizeof nodes);
-    memset(geometry_before, 0xA5, sizeof geometry);
-    memcpy(nodes, nodes_before, sizeof nodes);
-    memcpy(geometry, geometry_before, sizeof geometry);
-    return file->convert(file->bytes, file_length, nodes, nodes_length, geometry) == number &&
-           memcmp(nodes, nodes_before, sizeof nodes) == 0 && memcmp(geometry, geometry_before, sizeof geometry) == 0;
-}
-
-/* The same for the file with another number at a place. */
-static bool changed_refused(const struct file *file, size_t place, uint64_t value, int bytes, int64_t number) {
-    struct file changed = *file;
-    changed.put(changed.bytes + place, (int64_t)value, bytes);
-    return file_refused(&changed, changed.length, changed.nodes_length, number);
-}
-
-/* Does this refusal follow a byte too few or too many in file and buffer, and a file of so few bytes? */
-static void refusals_of_lengths(const char *format, const struct file *file, size_t few, int64_t number) {
-    const struct {
-        const char *name;
-        size_t file_length, nodes_length;
-    } lengths[] = {
-        {"a file too short for its header", few, file->nodes_length},
-        {"a file one byte shorter", file->length - 1, file->nodes_length},
-        {"a file one byte longer", file->length + 1, file->nodes_length},
-        {"a buffer one byte shorter", file->length, file->nodes_length - 1},
-        {"a buffer one byte longer", file->length, file->nodes_length + 1},
-    };
-    for (size_t i = 0; i < sizeof lengths / sizeof *lengths; i++) {
-        char name[100];
-        snprintf(name, sizeof name, "%s: %s gives %" PRId64, format, lengths[i].name, number);
-        tell(name, file_refused(file, lengths[i].file_length, lengths[i].nodes_length, number));
-    }
-}
-
-/* From 52 and 5 degrees, spacings 0.01 and 0.0125 degrees; heights of 43 m, 43.1234 m, 1/32 m, -1/32 m, -0 m and the last float that rounds
- * to -100 m. */
-static struct file vdatum(void) {
-    const uint64_t angles[] = {0x404A000000000000, 0x4014000000000000, 0x3F847AE147AE147B, 0x3F8999999999999A};
-    const uint32_t heights[NODES] = {0x422C0000, 0x422C7E5D, 0x3D000000, 0xBD000000, 0x80000000, 0xC2C80006};
-    struct file file = {marker_heights_from_vdatum, put_high_first, VDATUM_LENGTH, HEIGHTS_LENGTH, {0}};
-    uint8_t *at = file.bytes;
-    for (int i = 0; i < 4; i++) {
-        at = put_high_first(at, (int64_t)angles[i], 8);
-    }
-    at = put_high_first(put_high_first(at, 2, 4), 3, 4);
-    for (int i = 0; i < NODES; i++) {
-        at = put_high_first(at, heights[i], 4);
-    }
-    return file;
-}
-
-static void figures_of_vdatum(void) {
-    struct file file = vdatum();
-    tell("VDatum: 43, 43.1234, 1/32, -1/32, -0 and -100.00004577 m give 430000 431234 313 -312 0 -1000000",
-         converts(&file, (int64_t[]){430000, 431234, 313, -312, 0, -1000000}, (int64_t[]){SOUTH, WEST, 10000000, 12500000, 2, 3}));
-    put_high_first(put_high_first(file.bytes, (int64_t)0xBF50000000000000, 8), 0x3F50000000000000, 8);
-    put_high_first(put_high_first(file.bytes + 40, 1, 4), 0x42C80006, 4);
-    tell("VDatum: from -1/1024 and 1/1024 degrees, -976562 and 976563; a subnormal height is 0, 100.00004577 m 1000000",
-         converts(&file, (int64_t[]){0, 1000000, 313, -312, 0, -1000000}, (int64_t[]){-976562, 976563, 10000000, 12500000, 2, 3}));
-}
-
-static void refusals_of_vdatum(void) {
-    struct file file = vdatum();
-    refusals_of_lengths("VDatum", &file, 39, 16);
-    tell("VDatum: an infinite latitude gives 16", changed_refused(&file, 0, 0x7FF0000000000000, 8, 16));
-    tell("VDatum: a spacing that rounds to 0 gives 16", changed_refused(&file, 16, 1, 8, 16));
-    tell("VDatum: one row of 6 columns gives 16", changed_refused(&file, 32, 0x0000000100000006, 8, 16));
-    tell("VDatum: -2 rows of -3 columns give 16", changed_refused(&file, 32, 0xFFFFFFFEFFFFFFFD, 8, 16));
-    tell("VDatum: a last height that is no number gives 17", changed_refused(&file, 60, 0x7FC00000, 4, 17));
-    tell("VDatum: a last height of 100.00005341 m gives 17", changed_refused(&file, 60, 0x42C80007, 4, 17));
-    put_high_first(put_high_first(file.bytes + 36, 4, 4), 0x7FC00000, 4);
-    tell("VDatum: 16 comes before 17", file_refused(&file, VDATUM_LENGTH, HEIGHTS_LENGTH, 16));
-}
-
-/* The labels of an NTv2 file in turn, and of its last record. */
-static const char ntv2_labels[] = "NUM_ORECNUM_SRECNUM_FILEGS_TYPE VERSION SYSTEM_FSYSTEM_TMAJOR_F MINOR_F MAJOR_T MINOR_T "
-                                  "SUB_NAMEPARENT  CREATED UPDATED S_LAT   N_LAT   E_LONG  W_LONG  LAT_INC LONG_INCGS_COUNTEND     ";
-
-enum { NTV2_RECORDS = 23, TEXT_LENGTH = 8 };
-
-/* Where a record begins: the last one behind the nodes. */
-static size_t ntv2_record(int record) {
-    return record < NTV2_RECORDS - 1 ? (size_t)record * 16 : NTV2_LENGTH - MARKER_NTV2_END_LENGTH;
-}
-
-/* The file of crates/rules/proofs/Ntv2File.antt, which has 0xEE wherever nothing is read: from 52 degrees to 0.01 degree further north,
- * from 17,999.859375 to 18,089.859375 arcseconds east, whose nd are exact halves, spacings 36 and 45 arcseconds. From the south-east,
- * westward, the latitude shifts are 9/64 arcsecond, which is 39,062.5 nd, its negative, 0, 36, -36, -0, and the longitude shifts the same
- * in another order. */
-static struct file ntv2(void) {
-    const uint64_t angles[] = {0x4106DA0000000000, 0x4106DB2000000000, 0xC0D1AA7700000000,
-                               0xC0D193F700000000, 0x4042000000000000, 0x4046800000000000};
-    const uint32_t shifts[NODES][2] = {{0x3E100000, 0x3E100000}, {0xBE100000, 0}, {0, 0xBE100000},
-                                       {0x42100000, 0xC2100000}, {0xC2100000, 0x42100000}, {0x80000000, 0x80000000}};
-    struct file file = {marker_corrections_from_ntv2, put, NTV2_LENGTH, CORRECTIONS_LENGTH, {0}};
-    memset(file.bytes, 0xEE, NTV2_LENGTH);
-    for (int i = 0; i < NTV2_RECORDS; i++) {
-        memcpy(file.bytes + ntv2_record(i), ntv2_labels + i * TEXT_LENGTH, TEXT_LENGTH);
-    }
-    put(file.bytes + 8, 11, 4);
-    put(file.bytes + 24, 11, 4);
-    put(file.bytes + 40, 1, 4);
-    memcpy(file.bytes + 56, "SECONDS ", TEXT_LENGTH);
-    for (int i = 0; i < 6; i++) {
-        put(file.bytes + 248 + 16 * i, (int64_t)angles[i], 8);
-    }
-    put(file.bytes + 344, NODES, 4);
-    for (int i = 0; i < NODES; i++) {
-        put(put(file.bytes + 352 + 16 * i, shifts[i][0], 4), shifts[i][1], 4);
-    }
-    return file;
-}
-
-/* Is this what an NTv2 file becomes: the numbers that Ntv2File.antt computes? */
-static bool becomes_corrections(const struct file *file) {
-    const int64_t corrections[] = {0, 39063, -39062, 0, 39063, -39062, 0, 0, -10000000, -10000000, 10000000, 10000000};
-    return converts(file, corrections, (int64_t[]){SOUTH, INT64_C(4999960938), 10000000, 12500000, 2, 3});
-}
-
-static void figures_of_ntv2(void) {
-    struct file file = ntv2();
-    tell("NTv2: 9/64, -9/64, 36 and -36 arcseconds give 39063 -39062 10000000 -10000000, turned and from the west",
-         becomes_corrections(&file));
-    for (int record = 4; record < 15; record++) {
-        memcpy(file.bytes + 16 * record + 8, "NONE    ", TEXT_LENGTH);
-    }
-    for (int node = 0; node < NODES; node++) {
-        put(file.bytes + 360 + 16 * node, (int64_t)0xFF8000007FC00000, 8);
-    }
-    put(file.bytes + 12, 0, 4);
-    put(file.bytes + 348, 0, 4);
-    put(file.bytes + NTV2_LENGTH - TEXT_LENGTH, 0, 8);
-    tell("NTv2: other texts, accuracies, and bytes after counts and END change nothing", becomes_corrections(&file));
-}
-
-static void refusals_of_ntv2(void) {
-    struct file file = ntv2();
-    refusals_of_lengths("NTv2", &file, 367, 18);
-    bool labels = true, infinite = true;
-    for (int record = 0; record < NTV2_RECORDS; record++) {
-        labels = changed_refused(&file, ntv2_record(record) + 7, 0, 1, 18) && labels;
-    }
-    for (int angle = 0; angle < 6; angle++) {
-        infinite = changed_refused(&file, 248 + 16 * (size_t)angle, 0x7FF0000000000000, 8, 18) && infinite;
-    }
-    tell("NTv2: a label that ends otherwise gives 18, each of 23", labels);
-    tell("NTv2: a type that begins with M gives 18", changed_refused(&file, 56, 'M', 1, 18));
-    tell("NTv2: ten records in the overview give 18", changed_refused(&file, 8, 10, 4, 18));
-    tell("NTv2: ten records in the header give 18", changed_refused(&file, 24, 10, 4, 18));
-    tell("NTv2: two grids give 18", changed_refused(&file, 40, 2, 4, 18));
-    tell("NTv2: seven nodes of 2 rows and 3 columns give 18", changed_refused(&file, 344, 7, 4, 18));
-    tell("NTv2: an infinite bound or spacing gives 18, each of 6", infinite);
-    tell("NTv2: a row and a half give 18", changed_refused(&file, 264, 0x4106DBB000000000, 8, 18));
-    tell("NTv2: an eastern bound 1 nd off gives 18", changed_refused(&file, 280, 0xC0D1AA770016A635, 8, 18));
-    tell("NTv2: a spacing below zero gives 18", changed_refused(&file, 312, 0xC042000000000000, 8, 18));
-    tell("NTv2: an infinite first latitude shift gives 19", changed_refused(&file, 352, 0x7F800000, 4, 19));
-    tell("NTv2: a last longitude shift that is no number gives 19", changed_refused(&file, 436, 0xFFC00000, 4, 19));
-    tell("NTv2: a last latitude shift just past 36 gives 19", changed_refused(&file, 432, 0x42100001, 4, 19));
-    tell("NTv2: a first longitude shift just past -36 gives 19", changed_refused(&file, 356, 0xC2100001, 4, 19));
-    put(file.bytes + 352, 0x7F800000, 4);
-    tell("NTv2: 18 comes before 19", file_refused(&file, NTV2_LENGTH, CORRECTIONS_LENGTH + 1, 18));
 }
 
 static void figures_of_notation(void) {
@@ -418,9 +291,7 @@ int main(void) {
     figures_of_notation();
     figures_of_edition_2();
     refusals_of_edition_2();
-    figures_of_vdatum();
-    refusals_of_vdatum();
-    figures_of_ntv2();
-    refusals_of_ntv2();
+    figures_of_kind_1();
+    refusals_of_kind_1();
     return failures == 0 ? 0 : 1;
 }

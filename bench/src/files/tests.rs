@@ -1,7 +1,7 @@
 //! That the made-up files are what the measurements need.
 
 use super::{FileKind, Values};
-use crate::{gsb, gtx};
+use crate::{gsb, gtx, FileRoom};
 
 const FOUR: &str = "four bytes";
 
@@ -9,14 +9,26 @@ const FOUR: &str = "four bytes";
 /// them, in units or nd. Both are in the nodes' order, longitudes to the east.
 fn values(kind: FileKind, values: Values) -> (Vec<f32>, Vec<i32>) {
     let file = kind.made_up(values, 64, 80);
-    let mut nodes = vec![0; kind.nodes_length(file.len())];
-    let mut geometry = [0; 6];
-    let [_, convert] = kind.conversions();
-    assert_eq!(convert(&file, &mut nodes, &mut geometry), 0);
-    assert_eq!(geometry[4..], [64, 80]);
+    let (nodes, geometry) = converted(kind, &file);
+    let [nodes, _] = nodes;
+    assert_eq!(geometry[4..6], [64, 80]);
     let numbers = nodes.chunks_exact(4);
     let numbers = numbers.map(|it| i32::from_le_bytes(it.try_into().expect(FOUR)));
     (floats(kind, &file), numbers.collect())
+}
+
+/// What the i128 implementation makes of a file: the nodes, those of a subgrid, and the geometry.
+fn converted(kind: FileKind, file: &[u8]) -> ([Vec<u8>; 2], [i64; 12]) {
+    let [mut nodes, mut dense] = kind.nodes_lengths(file).map(|it| vec![0; it]);
+    let mut geometry = [0; 12];
+    let room = FileRoom {
+        nodes: &mut nodes,
+        dense: &mut dense,
+        geometry: &mut geometry,
+    };
+    let [_, convert] = kind.conversions();
+    assert_eq!(convert(file, room), 0);
+    ([nodes, dense], geometry)
 }
 
 fn floats(kind: FileKind, file: &[u8]) -> Vec<f32> {
@@ -73,4 +85,24 @@ fn mixed_values_have_both_signs_and_all_sizes() {
         }
         assert!(numbers.contains(&0) && numbers.contains(&1) && numbers.contains(&-1));
     }
+}
+
+/// The subgrid covers cells of its parent, of which 64 × 80 nodes have 63 × 79: each side of a cell
+/// is divided by 5.
+#[test]
+fn a_subgrid_lies_over_the_middle_of_its_parent() {
+    let kind = FileKind::Ntv2;
+    let nested = kind.made_up_nested(Values::Mixed, 64, 80);
+    let (file, subgrid) = nested.expect("a file with a subgrid");
+    let ([nodes, dense], geometry) = converted(kind, &file);
+    let (first, second) = geometry.split_at(6);
+    assert_eq!(first[4..], [64, 80]);
+    let sizes = [subgrid.rows, subgrid.columns].map(i64::from);
+    assert_eq!((&second[4..], sizes), (&[156, 196][..], [156, 196]));
+    assert_eq!([first[2], first[3]], [5 * second[2], 5 * second[3]]);
+    assert_eq!(second[0] - first[0], 16 * first[2]);
+    assert_eq!(second[1] - first[1], 20 * first[3]);
+    assert_eq!(nodes.len() + dense.len(), 8 * kind.nodes(&file));
+    assert_ne!(nodes[..64], dense[..64]);
+    assert_eq!(FileKind::Vdatum.made_up_nested(Values::Mixed, 64, 80), None);
 }

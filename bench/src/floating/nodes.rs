@@ -1,5 +1,7 @@
 //! One grid of an image: the place of a point in it and the bilinear values there.
 
+use std::ops::RangeInclusive;
+
 /// A grid whose nodes have so many bytes, opened without a question.
 pub struct Nodes<'a, const BYTES: usize> {
     image: &'a [u8],
@@ -40,6 +42,15 @@ impl<'a> Trailer<'a> {
 
     pub fn short(&self, at: usize) -> u32 {
         u32::from_le_bytes(self.0[at..at + 4].try_into().expect("4 bytes"))
+    }
+
+    /// The bounds in latitude and in longitude of the geometry at the beginning.
+    pub fn bounds(&self) -> [RangeInclusive<i64>; 2] {
+        [0, 1].map(|axis| {
+            let start = self.long(8 * axis);
+            let [spacing, count] = [16, 24].map(|part| i64::from(self.short(part + 4 * axis)));
+            start..=start + spacing * (count - 1)
+        })
     }
 }
 

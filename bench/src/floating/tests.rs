@@ -6,6 +6,11 @@ use crate::grid::{self, Edition};
 use crate::{fixes, plain, Way};
 
 #[test]
+fn answers_are_near_with_a_dense_grid() {
+    near(Edition::SecondDense);
+}
+
+#[test]
 fn answers_are_near_in_edition_1() {
     near(Edition::First);
 }
@@ -17,7 +22,7 @@ fn answers_are_near_in_edition_2() {
 
 fn near(edition: Edition) {
     let grid = grid::national(edition, 21, 21);
-    let fixes = fixes::spread(&grid.corrections, 1_000);
+    let fixes = fixes::spread_over(&grid, 1_000);
     for way in [Way::Out, Way::Back] {
         let [mut found, mut expected] = [vec![0; 5_000], vec![0; 5_000]];
         assert_eq!(list(way, &grid.image, &fixes, &mut found), 0);

@@ -1,5 +1,6 @@
 //! Made-up grids of either edition.
 
+use super::dense::over_the_middle;
 use super::{Edition, Geometry, Grid};
 
 /// Latitude and longitude spacing of the corrections, 0.0125 and 0.02 degrees.
@@ -36,11 +37,19 @@ impl Geometry {
 
 /// A grid that passes the grid check, around 52 degrees north and 5 degrees east. Its values are
 /// some 0.00095 and 0.0005 degrees and 43 m, with an uneven part that differs from node to node. In
-/// edition 2 the heights cover its bounds.
+/// edition 2 the heights cover its bounds. A dense grid lies over its middle, with an uneven part of
+/// its own.
 pub fn national(edition: Edition, rows: u32, columns: u32) -> Grid {
     let geometry = Geometry::national(CORRECTION_SPACINGS, rows, columns);
     let heights = own_heights(edition, &geometry);
-    Grid::new(geometry, heights, uneven_correction, uneven_height)
+    let grid = Grid::new(geometry, heights, uneven_correction, uneven_height);
+    if edition == Edition::SecondDense {
+        over_the_middle(grid, |row, column| {
+            [3, 4].map(|value| uneven(row, column, value) / 5)
+        })
+    } else {
+        grid
+    }
 }
 
 /// Such a grid of edition 2 with heights spaced by 0.02 and 0.025 degrees: their cells are wider
@@ -73,12 +82,23 @@ pub fn narrow_heights() -> Grid {
 /// A grid of a size, with all values zero.
 pub fn zeros(edition: Edition, rows: u32, columns: u32) -> Grid {
     let geometry = Geometry::from_zero(CORRECTION_SPACINGS, rows, columns);
-    Grid::of_zeros(geometry, own_heights(edition, &geometry))
+    let grid = Grid::of_zeros(geometry, own_heights(edition, &geometry));
+    with_same_dense(edition, grid)
+}
+
+/// The grid, in kind 1 with a dense one over its middle that adds nothing.
+fn with_same_dense(edition: Edition, grid: Grid) -> Grid {
+    if edition == Edition::SecondDense {
+        over_the_middle(grid, |_, _| [0, 0])
+    } else {
+        grid
+    }
 }
 
 /// A grid of 21 by 21 nodes on which the way out from the middle has the given count, 1 to 5. The
 /// latitude correction rises by a hundredth of the spacing from row to row, the most that the
-/// grid check lets pass. In edition 2 the heights have one and a half times the spacings.
+/// grid check lets pass. In edition 2 the heights have one and a half times the spacings, and a
+/// dense grid lies along the same slope.
 pub fn with_count(edition: Edition, count: u32) -> Grid {
     let middle_correction = [0, 50, 1_000, 100_000, 9_000_000][count as usize - 1];
     let geometry = Geometry {
@@ -91,10 +111,11 @@ pub fn with_count(edition: Edition, count: u32) -> Grid {
     };
     let heights = match edition {
         Edition::First => None,
-        Edition::Second => Some(covering(&geometry, [1_500_000; 2])),
+        _ => Some(covering(&geometry, [1_500_000; 2])),
     };
     let correction = |row, _| [middle_correction + 10_000 * (row as i32 - 10), 0];
-    Grid::new(geometry, heights, correction, |_, _| 430_000)
+    let grid = Grid::new(geometry, heights, correction, |_, _| 430_000);
+    with_same_dense(edition, grid)
 }
 
 /// The heights' own geometry in edition 2: that of their spacings, or the corrections' where rows or

@@ -5,8 +5,6 @@ use super::{
 };
 use crate::{fixes, plain, Way};
 
-const EDITIONS: [Edition; 2] = [Edition::First, Edition::Second];
-
 /// The i128 implementation's answers both ways, which each list call gives.
 fn answers(grid: &Grid, fixes: &[i64]) -> Vec<i64> {
     let mut answers = vec![-1; 2 * fixes.len() / 3 * 5];
@@ -29,12 +27,12 @@ fn covers(outer: &Geometry, inner: &Geometry) -> bool {
 
 #[test]
 fn national_grids_pass_and_answer() {
-    for edition in EDITIONS {
+    for edition in Edition::ALL {
         for (rows, columns) in [(3, 3), (64, 64), (481, 301)] {
             let grid = national(edition, rows, columns);
             assert_eq!(plain::grid_check(&grid.image, &mut [0; 6]), 0);
             assert!(covers(&grid.heights, &grid.corrections));
-            let fixes = fixes::spread(&grid.corrections, 100);
+            let fixes = fixes::spread_over(&grid, 100);
             let answered = |answer: &[i64]| answer[4] == 0;
             assert!(answers(&grid, &fixes).chunks_exact(5).all(answered));
         }
@@ -75,7 +73,7 @@ fn heights_stay_within_question_3() {
 
 #[test]
 fn counts_are_as_named() {
-    for edition in EDITIONS {
+    for edition in Edition::ALL {
         for count in 1..=5 {
             let grid = with_count(edition, count);
             assert_eq!(plain::grid_check(&grid.image, &mut [0; 6]), 0);
@@ -118,4 +116,55 @@ fn values_are_where_they_were_put() {
     );
     let back = u32::from_le_bytes(nodes[nodes.len() - 16..][..4].try_into().expect("4 bytes"));
     assert_eq!(back as usize, nodes.len());
+}
+
+/// The middle of the corrections, at most so far divided as question 3 allows.
+#[test]
+fn dense_grids_lie_over_the_middle() {
+    for (rows, columns, dense_rows, dense_columns) in [
+        (3, 3, 6, 6),
+        (64, 64, 156, 156),
+        (481, 301, 1_201, 751),
+        (4_096, 2, 4_096, 6),
+    ] {
+        let grid = zeros(Edition::SecondDense, rows, columns);
+        let dense = grid.dense.expect("a dense grid");
+        assert_eq!((dense.rows, dense.columns), (dense_rows, dense_columns));
+        assert!(covers(&grid.corrections, &dense));
+        assert_eq!(plain::grid_check(&grid.image, &mut [0; 6]), 0);
+    }
+}
+
+/// Every other fix, and for these the corrections differ from those without the dense grid.
+#[test]
+fn fixes_lie_in_the_dense_grid_and_beside_it() {
+    let grid = national(Edition::SecondDense, 64, 64);
+    let dense = grid.dense.expect("a dense grid");
+    let fixes = fixes::spread_over(&grid, 1_000);
+    let inside = |fix: &&[i64]| {
+        (dense.south..=dense.south + dense.height()).contains(&fix[0])
+            && (dense.west..=dense.west + dense.width()).contains(&fix[1])
+    };
+    let count = fixes.chunks_exact(3).filter(inside).count();
+    assert!((500..800).contains(&count), "{count}");
+    let without = Grid {
+        image: grid.image_without_dense(),
+        ..national(Edition::Second, 64, 64)
+    };
+    let (with, without) = (answers(&grid, &fixes), answers(&without, &fixes));
+    let differ = with
+        .chunks(5)
+        .zip(without.chunks(5))
+        .filter(|(a, b)| a != b);
+    assert!(differ.count() > 900);
+}
+
+#[test]
+fn the_image_without_its_dense_grid_is_that_of_edition_2() {
+    let dense = national(Edition::SecondDense, 21, 21);
+    let without = national(Edition::Second, 21, 21);
+    assert_eq!(dense.image_without_dense(), without.image);
+    assert_eq!(dense.correction(20, 3), without.correction(20, 3));
+    assert_eq!(dense.height(5, 7), without.height(5, 7));
+    assert_eq!(dense.nodes(), without.nodes() + 51 * 51);
 }

@@ -26,6 +26,18 @@ impl Axis {
         self.start <= angle && angle <= self.end
     }
 
+    /// The angle of a node.
+    pub fn angle(&self, index: usize) -> i64 {
+        self.start + self.spacing * index as i64
+    }
+
+    /// Question 20 of one axis: does a dense one lie in this one, both its bounds on nodes, with a
+    /// whole part of the spacing?
+    pub fn takes_in(&self, dense: &Axis) -> bool {
+        let on_node = |angle: i64| self.holds(angle) && (angle - self.start) % self.spacing == 0;
+        on_node(dense.start) && on_node(dense.end) && self.spacing % dense.spacing == 0
+    }
+
     /// The index of an angle's cell, and the angle's part of it.
     pub fn place(&self, angle: i64) -> (usize, i64) {
         let offset = angle - self.start;

@@ -3,7 +3,7 @@
 use super::fix::{convert_all, judge_fix, Values};
 use super::nodes::{Nodes, Point};
 use super::trailer::{counts_fit, spacings_fit, Trailer};
-use super::Number;
+use super::{found, Number};
 use crate::Way;
 
 /// An opened image.
@@ -61,13 +61,7 @@ fn back(grid: &Opened, q: Point, height: i64) -> Result<Values, Number> {
 // As above.
 #[inline(never)]
 pub fn grid_check(image: &[u8], findings: &mut [i64; 6]) -> Number {
-    match open(image).and_then(|grid| check(&grid)) {
-        Ok(found) => {
-            *findings = found;
-            0
-        }
-        Err(number) => number,
-    }
+    found(findings, open(image).and_then(|grid| check(&grid)))
 }
 
 /// Questions 9 and 12 over all nodes.

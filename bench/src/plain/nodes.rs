@@ -71,6 +71,27 @@ impl<const VALUES: usize> Nodes<'_, VALUES> {
         })
     }
 
+    /// Whether a number is further than 1 from the exact bilinear value at a point in the bounds.
+    pub fn differs(&self, p: Point, value: usize, number: i32) -> bool {
+        let (row, u) = self.latitude.place(p.latitude);
+        let (column, v) = self.longitude.place(p.longitude);
+        let (p, q) = (self.latitude.spacing, self.longitude.spacing);
+        let weighed = |up: usize, right: usize, weight: i64| {
+            let corner = self.values_at(row + up, column + right)[value];
+            i128::from(corner) * i128::from(weight)
+        };
+        let south = weighed(0, 0, (p - u) * (q - v)) + weighed(0, 1, (p - u) * v);
+        let north = weighed(1, 0, u * (q - v)) + weighed(1, 1, u * v);
+        let area = i128::from(p * q);
+        (i128::from(number) * area - south - north).abs() > area
+    }
+
+    /// The values of the node of a row and a column.
+    pub fn values_at(&self, row: usize, column: usize) -> [i32; VALUES] {
+        let index = row * self.longitude.count + column;
+        Self::values(&self.nodes[Self::NODE_BYTES * index..])
+    }
+
     /// The values of a node.
     pub fn values(node: &[u8]) -> [i32; VALUES] {
         array::from_fn(|value| number_at(node, 4 * value))

@@ -1,11 +1,14 @@
-//! Document 01's figures for its grid G, figures of edition 2 on G's corrections, and figures of
-//! VDatum and NTv2 files.
+//! Document 01's figures for its grid G, figures of edition 2 on G's corrections, without a dense grid
+//! and with one, and figures of VDatum and NTv2 files.
 
 mod edition_1;
 mod edition_2;
 mod edition_2_images;
+mod kind_1;
+mod kind_1_images;
 mod ntv2;
 mod ntv2_files;
+mod ntv2_subgrids;
 mod vdatum;
 mod vdatum_files;
 

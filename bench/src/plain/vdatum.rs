@@ -4,6 +4,7 @@ use super::file_geometry::{self, FileAxis, FileGeometry};
 use super::file_geometry::{LATITUDE_LIMIT, LONGITUDE_LIMIT, SPACING_LIMIT};
 use super::floats::{Exact, Scale};
 use super::Number;
+use crate::FileRoom;
 
 /// Bytes before the first node.
 const HEADER_BYTES: usize = 40;
@@ -20,7 +21,8 @@ const METRES: Scale = Scale {
 
 // A function of its own, so that the list calls' code does not bear on its speed.
 #[inline(never)]
-pub fn heights_from_vdatum(file: &[u8], nodes: &mut [u8], geometry: &mut FileGeometry) -> Number {
+pub fn heights_from_vdatum(file: &[u8], room: FileRoom) -> Number {
+    let nodes = room.nodes;
     let Some(found) = judge_file(file, nodes.len()) else {
         return 16;
     };
@@ -33,7 +35,7 @@ pub fn heights_from_vdatum(file: &[u8], nodes: &mut [u8], geometry: &mut FileGeo
             node.copy_from_slice(&units.to_le_bytes());
         }
     }
-    *geometry = found;
+    room.geometry[..6].copy_from_slice(&found);
     0
 }
 

@@ -11,9 +11,8 @@ ghost use Prim.Native.Nat.{_≤_};
 ghost use lib.IntN.{natAbs, _+ℤ_};
 ghost use Rattle.rules.specs.Units.{backHeightLimit, quasiGeoidLimit};
 ghost use Rattle.rules.specs.Image.{gridOf};
-ghost use Rattle.rules.specs.Limits.{PointWithin, CorrectionWithin};
+ghost use Rattle.rules.specs.Limits.{OpenAround, PointWithin, CorrectionWithin};
 ghost use Rattle.rules.specs.Ways as ways;
-ghost use Rattle.source.specs.Asked.{OpenAround};
 
 // The way back after questions 7 and 8, over an opened image: the corrections and the quasi-geoid height at the point, added.
 pub fn back_from(image: &[u8], l: Layout, q: Point, height: i64) -> Answer

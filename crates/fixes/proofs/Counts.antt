@@ -8,7 +8,7 @@ use Rattle.rules.specs.declared.Point.{Point}
 use Rattle.rules.specs.declared.Position.{Position}
 use Rattle.rules.specs.declared.Way.{Way}
 use Rattle.rules.specs.declared.Way.the-variants as way
-use Rattle.rules.specs.Units.{stopDistance, mostEvaluations}
+use Rattle.rules.specs.Units.{mostEvaluations}
 use Rattle.rules.specs.Answers.{Outcome, values, number}
 use Rattle.rules.specs.Ways.{Source, question7, iterate, back, out, heightLimit, wayOf, convertOver}
 use Rattle.rules.proofs.Answers.{asked, followed}
@@ -19,10 +19,10 @@ use Rattle.fixes.specs.Fix.{CountAtMostFive}
 way-count : (w : Way) (s : Source) (p : Point) (h : ℤ) (v : Position) → s .inside p ≡ true → wayOf w s p h ≡ values v → v .count ≤ 5
 unfolding out back
 way-count way.Out s p h v i e =
-    let f = followed (iterate s stopDistance p mostEvaluations 0 p) _ v e in
+    let f = followed (iterate s (s .stop) p mostEvaluations 0 p) _ v e in
     let g = followed (s .height (f .0 .point)) _ v (f .2) in
     let m : f .0 .count ≡ v .count = cc in
-    omega (arith, counted s stopDistance p mostEvaluations 0 p i (f .0) (f .1) .1)
+    omega (arith, counted s (s .stop) p mostEvaluations 0 p i (f .0) (f .1) .1)
 way-count way.Back s q H v i e =
     let f = followed (s .corrections q) _ v e in
     let g = followed (s .height q) _ v (f .2) in

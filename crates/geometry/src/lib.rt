@@ -1,5 +1,6 @@
-// The geometry of a grid: questions 3 to 5, and the bounds of questions 8 and 10.
+// The geometry of a grid: questions 3 to 5, the bounds of questions 8 and 10, and of two grids question 20.
 use axis::far_bound;
+use axis::offset_on;
 use axis::on_axis;
 use numbers::is_between;
 use numbers::is_within;
@@ -10,11 +11,13 @@ use rules::LATITUDE_LIMIT;
 use rules::LONGITUDE_LIMIT;
 use rules::Point;
 use rules::SPACING_MOST;
+ghost use mathlib.Core.Bool.{true};
 ghost use mathlib.Core.Path.{_≡_};
 ghost use Prim.Native.Nat.{_≤_};
 ghost use Rattle.rules.specs.Units.{longitudeLimit};
 ghost use Rattle.rules.specs.Questions.{question3, question4, boundsWithin, question5, questions3To5};
-ghost use Rattle.rules.specs.Limits.{Sized, GeometryPasses};
+ghost use Rattle.rules.specs.Limits.{Sized, AxisPasses, GeometryPasses};
+ghost use Rattle.rules.specs.Dense.{onLine, axisAligned, question20};
 ghost use Rattle.rules.specs.Lookup.{inside};
 
 // Question 3.
@@ -41,7 +44,7 @@ pub fn spacings_pass(g: Geometry) -> bool
 
 // Question 5, after 3 and 4.
 pub fn bounds_pass(g: Geometry) -> bool
-    requires { ⌜ Sized (g .latitude) × Sized (g .longitude) ⌝ }
+    requires { ⌜ (question3 g ≡ true) × (question4 g ≡ true) ⌝ }
     ensures { λ r. ⌜ r ≡ question5 g ⌝ }
 {
     let latitude = g.latitude;
@@ -89,6 +92,48 @@ pub fn in_bounds(g: Geometry, p: Point) -> bool
     let longitude = g.longitude;
     if on_axis(latitude, p.latitude) {
         on_axis(longitude, p.longitude)
+    } else {
+        false
+    }
+}
+
+// Question 20: the dense grid d lies within the coarse grid c, and is aligned with it.
+pub fn is_aligned(c: Geometry, d: Geometry) -> bool
+    requires { ⌜ GeometryPasses c × GeometryPasses d ⌝ }
+    ensures { λ r. ⌜ r ≡ question20 c d ⌝ }
+{
+    let latitude = c.latitude;
+    let longitude = c.longitude;
+    if axis_aligned(latitude, d.latitude) {
+        axis_aligned(longitude, d.longitude)
+    } else {
+        false
+    }
+}
+
+// The same of one axis: both dense bounds lie on coarse lines, and the coarse spacing is a whole multiple of the dense one.
+fn axis_aligned(c: Axis, d: Axis) -> bool
+    requires { ⌜ AxisPasses longitudeLimit c × AxisPasses longitudeLimit d ⌝ }
+    ensures { λ r. ⌜ r ≡ axisAligned c d ⌝ }
+{
+    if is_on_line(c, d.start) {
+        if is_on_line(c, far_bound(d)) {
+            c.spacing % d.spacing == 0
+        } else {
+            false
+        }
+    } else {
+        false
+    }
+}
+
+// An angle in the bounds of an axis, a whole number of spacings from its start.
+fn is_on_line(a: Axis, z: i64) -> bool
+    requires { ⌜ AxisPasses longitudeLimit a ⌝ }
+    ensures { λ r. ⌜ r ≡ onLine a z ⌝ }
+{
+    if on_axis(a, z) {
+        offset_on(a, z) % a.spacing == 0
     } else {
         false
     }

@@ -1,2 +1,3 @@
--- Laws of the lookups on two grids, for their functions and for the crates above.
+-- Laws of the lookups on separate grids.
+pub mod Chosen
 pub mod OnGrids

@@ -1,35 +1,32 @@
-// The opening of an image: its trailer is read, questions 1 to 6 are asked, and the layout of its values is answered.
-use geometry::bounds_pass;
-use geometry::counts_pass;
-use geometry::spacings_pass;
+// The opening of an image: its trailer is read and judged, and the layout of its values is answered.
 use rules::Geometry;
+use rules::GridTrailer;
 use rules::Layout;
 use rules::Opened;
 use rules::Plane;
 use rules::Refusal;
 use rules::Trailer;
 use rules::TwoGridTrailer;
+use trailers::read_dense_trailer;
 use trailers::read_edition;
 use trailers::read_trailer;
 use trailers::read_two_grid_trailer;
+use verdicts::Verdict;
+use verdicts::judged;
+use verdicts::judged_nested;
+use verdicts::judged_two;
 ghost use mathlib.Core.Path.{_≡_};
-ghost use mathlib.Core.Bool.{true, _&&_};
-ghost use Prim.Native.Nat.{_*_, _≤_};
-ghost use Rattle.rules.specs.Units.{countMost};
+ghost use mathlib.Core.Bool.{true};
+ghost use mathlib.Core.List.{List};
+ghost use Prim.Native.Nat.{ℕ, _≤_};
+ghost use lib.ListN.{length};
 ghost use Rattle.rules.specs.Answers.{values};
-ghost use Rattle.rules.specs.Image.{rows, columns, layoutOf, twoGridLayoutOf, layoutFor};
-ghost use Rattle.rules.specs.Limits.{Sized};
-ghost use Rattle.rules.specs.Questions.{question2, question3, question4, question5, question6, judge, opening, openedOf};
-ghost use Rattle.image.specs.Verdict.{verdictOf, planeAt};
-ghost use Rattle.rules.specs.Questions.{kindKnown, ofBoth, backPasses, backsPass, judgeTwo, openingTwo};
+ghost use Rattle.rules.specs.Image.{twoGridTrailerOf, isNested, layoutOf, twoGridLayoutOf, nestedLayoutOf, layoutFor};
+ghost use Rattle.rules.specs.Questions.{question6, backsPass, allBacksPass, opening, openingTwo, openingNested, openedOf};
+ghost use Rattle.verdicts.specs.Verdict.{verdictOf};
+ghost use Rattle.image.specs.Planes.{planeAt};
 
-// Whether the questions put to a trailer have the answer yes, or the first refusal.
-pub enum Verdict {
-    Passes,
-    Refused(Refusal),
-}
-
-// Questions 1 to 6, of any image.
+// Questions 1 to 6, and 20, of any image.
 pub fn open(image: &[u8]) -> Opened
     ensures { λ r. ⌜ openedOf (now (image .entry)) r ≡ opening (now (image .entry)) ⌝ }
 {
@@ -39,10 +36,7 @@ pub fn open(image: &[u8]) -> Opened
     if read_edition(image) == 2 {
         return open_two(image);
     }
-    match judged(read_trailer(image), image.len() as u64) {
-        Verdict::Passes => Opened::Separate(false),
-        Verdict::Refused(r) => Opened::Refused(r),
-    }
+    opened_by(judged(read_trailer(image), image.len() as u64), false)
 }
 
 // The same of edition 2.
@@ -52,57 +46,36 @@ fn open_two(image: &[u8]) -> Opened
     if image.len() < 80 {
         return Opened::Refused(Refusal::ImageLength);
     }
-    match judged_two(read_two_grid_trailer(image), image.len() as u64) {
-        Verdict::Passes => Opened::Separate(true),
+    let t = read_two_grid_trailer(image);
+    if is_nested(t) {
+        return open_nested(image, t);
+    }
+    opened_by(judged_two(t, image.len() as u64), true)
+}
+
+// The same of kind 1, by the trailer t. The length is at least 80, so the first difference fits where the sum with any back might not.
+fn open_nested(image: &[u8], t: TwoGridTrailer) -> Opened
+    requires { ⌜ (80 ≤ length (now image)) × (t ≡ twoGridTrailerOf (now image)) × (isNested t ≡ true) ⌝ }
+    ensures { λ r. ⌜ openedOf (now (image .entry)) r ≡ openingNested (now (image .entry)) ⌝ }
+{
+    let size = image.len() as u64;
+    if size - 36 < t.corrections.back {
+        return Opened::Refused(Refusal::ImageLength);
+    }
+    opened_by(
+        judged_nested(read_dense_trailer(image, t.corrections.back), t, size),
+        true,
+    )
+}
+
+// What opening answers by a verdict.
+fn opened_by(v: Verdict, separate: bool) -> Opened
+    ensures { λ r. ⌜ ((b : List ℕ) → openedOf b r ≡ verdictOf (layoutFor b separate) v) ⌝ }
+{
+    match v {
+        Verdict::Passes => Opened::Separate(separate),
         Verdict::Refused(r) => Opened::Refused(r),
     }
-}
-
-// Edition 1's questions 2 to 6, of a trailer and the image's length.
-fn judged(t: Trailer, size: u64) -> Verdict
-    ensures { λ r. ⌜ verdictOf (layoutOf size (t .geometry)) r ≡ judge t size ⌝ }
-{
-    let g = t.geometry;
-    if !edition_passes(t) {
-        return Verdict::Refused(Refusal::Edition);
-    }
-    if !counts_pass(g) {
-        return Verdict::Refused(Refusal::NodeCount);
-    }
-    if !spacings_pass(g) {
-        return Verdict::Refused(Refusal::Spacing);
-    }
-    if !bounds_pass(g) {
-        return Verdict::Refused(Refusal::GridBounds);
-    }
-    if !bytes_pass(t, size) {
-        return Verdict::Refused(Refusal::NodeBytes);
-    }
-    Verdict::Passes
-}
-
-// Edition 2's questions 2 to 6, each of the correction grid and then of the height grid.
-fn judged_two(t: TwoGridTrailer, size: u64) -> Verdict
-    ensures { λ r. ⌜ verdictOf (twoGridLayoutOf size (t .corrections .geometry) (t .heights .geometry)) r ≡ judgeTwo t size ⌝ }
-{
-    let c = t.corrections.geometry;
-    let h = t.heights.geometry;
-    if !kind_passes(t) {
-        return Verdict::Refused(Refusal::Edition);
-    }
-    if !both_counts_pass(c, h) {
-        return Verdict::Refused(Refusal::NodeCount);
-    }
-    if !both_spacings_pass(c, h) {
-        return Verdict::Refused(Refusal::Spacing);
-    }
-    if !both_bounds_pass(c, h) {
-        return Verdict::Refused(Refusal::GridBounds);
-    }
-    if !backs_pass(t, size) {
-        return Verdict::Refused(Refusal::NodeBytes);
-    }
-    Verdict::Passes
 }
 
 // The layout of an image that opened, read from its trailer once more: handed on by `open`, its many numbers would take longer.
@@ -111,7 +84,15 @@ pub fn layout_of(image: &[u8], separate: bool) -> Layout
     ensures { λ r. ⌜ r ≡ layoutFor (now (image .entry)) separate ⌝ }
 {
     if separate {
-        return two_grid_layout(read_two_grid_trailer(image), image.len() as u64);
+        let t = read_two_grid_trailer(image);
+        if is_nested(t) {
+            return nested_layout(
+                read_dense_trailer(image, t.corrections.back),
+                t,
+                image.len() as u64,
+            );
+        }
+        return two_grid_layout(t, image.len() as u64);
     }
     nodes_layout(read_trailer(image), image.len() as u64)
 }
@@ -129,9 +110,11 @@ fn nodes_layout(t: Trailer, size: u64) -> Layout
     let height = plane_at(g, first + 8, 12);
     Layout {
         separate: false,
+        nested: false,
         latitude,
         longitude,
         height,
+        dense: latitude,
     }
 }
 
@@ -148,9 +131,32 @@ fn two_grid_layout(t: TwoGridTrailer, size: u64) -> Layout
     let height = plane_at(h, size - t.heights.back, 4);
     Layout {
         separate: true,
+        nested: false,
         latitude,
         longitude,
         height,
+        dense: latitude,
+    }
+}
+
+// Kind 1's: the same, with the plane of the dense nodes.
+fn nested_layout(d: GridTrailer, t: TwoGridTrailer, size: u64) -> Layout
+    requires { ⌜ allBacksPass d t size ≡ true ⌝ }
+    ensures { λ r. ⌜ r ≡ nestedLayoutOf size (d .geometry) (t .corrections .geometry) (t .heights .geometry) ⌝ }
+{
+    let l = two_grid_layout(t, size);
+    let latitude = l.latitude;
+    let longitude = l.longitude;
+    let height = l.height;
+    let g = d.geometry;
+    let dense = plane_at(g, size - d.back, 8);
+    Layout {
+        separate: true,
+        nested: true,
+        latitude,
+        longitude,
+        height,
+        dense,
     }
 }
 
@@ -165,90 +171,9 @@ fn plane_at(geometry: Geometry, first: u64, stride: u64) -> Plane
     }
 }
 
-// Edition 1's question 2.
-fn edition_passes(t: Trailer) -> bool
-    ensures { λ r. ⌜ r ≡ question2 t ⌝ }
+// Kind 1 has a dense grid.
+fn is_nested(t: TwoGridTrailer) -> bool
+    ensures { λ r. ⌜ r ≡ isNested t ⌝ }
 {
-    t.edition == 1
-}
-
-// Edition 2's.
-fn kind_passes(t: TwoGridTrailer) -> bool
-    ensures { λ r. ⌜ r ≡ kindKnown t ⌝ }
-{
-    t.kind == 0
-}
-
-// Question 6, of an image of so many bytes.
-fn bytes_pass(t: Trailer, size: u64) -> bool
-    requires { ⌜ question3 (t .geometry) ≡ true ⌝ }
-    ensures { λ r. ⌜ r ≡ question6 t size ⌝ }
-{
-    let g = t.geometry;
-    back_passes(t.back, bytes_of(12, g) + 40, size)
-}
-
-// The bytes of all nodes, of which each has `width`.
-fn bytes_of(width: u64, g: Geometry) -> u64
-    requires { ⌜ (width ≤ 12) × (question3 g ≡ true) ⌝ }
-    ensures { λ r. ⌜ (r ≡ width * rows g * columns g) × (r ≤ 12 * countMost * countMost) ⌝ }
-{
-    width * g.latitude.count * g.longitude.count
-}
-
-// A distance back is as wanted, and not above the length.
-fn back_passes(back: u64, wanted: u64, size: u64) -> bool
-    ensures { λ r. ⌜ r ≡ backPasses back wanted size ⌝ }
-{
-    if back == wanted { back <= size } else { false }
-}
-
-// Question 3 of both grids.
-fn both_counts_pass(c: Geometry, h: Geometry) -> bool
-    ensures { λ r. ⌜ r ≡ (question3 c && question3 h) ⌝ }
-{
-    if counts_pass(c) {
-        counts_pass(h)
-    } else {
-        false
-    }
-}
-
-// Question 4.
-fn both_spacings_pass(c: Geometry, h: Geometry) -> bool
-    ensures { λ r. ⌜ r ≡ (question4 c && question4 h) ⌝ }
-{
-    if spacings_pass(c) {
-        spacings_pass(h)
-    } else {
-        false
-    }
-}
-
-// Question 5, after 3 and 4.
-fn both_bounds_pass(c: Geometry, h: Geometry) -> bool
-    requires { ⌜ Sized (c .latitude) × Sized (c .longitude) × Sized (h .latitude) × Sized (h .longitude) ⌝ }
-    ensures { λ r. ⌜ r ≡ (question5 c && question5 h) ⌝ }
-{
-    if bounds_pass(c) {
-        bounds_pass(h)
-    } else {
-        false
-    }
-}
-
-// Question 6.
-fn backs_pass(t: TwoGridTrailer, size: u64) -> bool
-    requires { ⌜ ofBoth question3 t ≡ true ⌝ }
-    ensures { λ r. ⌜ r ≡ backsPass t size ⌝ }
-{
-    let c = t.corrections.geometry;
-    let h = t.heights.geometry;
-    let height_back = bytes_of(4, h) + 80;
-    let correction_back = bytes_of(8, c) + height_back;
-    if back_passes(t.corrections.back, correction_back, size) {
-        back_passes(t.heights.back, height_back, size)
-    } else {
-        false
-    }
+    t.kind == 1
 }

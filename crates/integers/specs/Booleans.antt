@@ -1,6 +1,6 @@
 -- Tests that compute: conjunctions, their parts, and a branch that is taken.
-use mathlib.Core.Bool.{Bool, true, false, cond, _&&_, false≢true}
-use mathlib.Core.Path.{_≡_, refl}
+use mathlib.Core.Bool.{Bool, true, false, cond, _&&_, false≢true, Bool·beq}
+use mathlib.Core.Path.{_≡_, refl, sym}
 
 pub and-left : (a b : Bool) → (a && b) ≡ true → a ≡ true
 and-left true b h = refl
@@ -32,3 +32,10 @@ and-stop b e h = rw (← e, h)
 pub branched : {A G : Type 0} (t : Bool) (x y z : A) → cond t x y ≡ z → (t ≡ true → x ≡ z → G) → (t ≡ false → y ≡ z → G) → G
 branched true x y z h f g = f refl h
 branched false x y z h f g = g refl h
+
+-- What is tested to be the same is.
+pub beq-true : (a b : Bool) → Bool·beq a b ≡ true → a ≡ b
+beq-true true true e = refl
+beq-true true false e = sym e
+beq-true false true e = e
+beq-true false false e = refl

@@ -1,7 +1,7 @@
 -- Division of an integer by a natural above zero, rounded down, and the exact quotient plus one half, rounded down.
 use mathlib.Core.Path.{_≡_}
 use Prim.Native.Nat.{ℕ, _+_, _*_, _/_, _≤_, _<_}
-use native.Mathlib.Nat.{mul-div-le, lt-mul-div-succ, lt-of-mul-lt-mul-left}
+use native.Mathlib.Nat.{mul-div-le, lt-mul-div-succ, lt-of-mul-lt-mul-left, mul-pos, mul-le-mul-left, mul-lt-mul-of-pos-left}
 use native.Mathlib.Omega.{arith}
 use lib.IntN.{ℤ, pos, negsuc, natAbs, _+ℤ_, _*ℤ_}
 use Rattle.integers.specs.Difference.{up, down, order, var, lit, _⊕_, _⊗_}
@@ -65,6 +65,15 @@ round-close num num' den m h n =
     let f = round-of num den h in
     let g = round-of num' den h in
     floor-near m (to-floor den num _ f) (to-floor den num' _ g) (omega (arith, lit 2 ⊗ var num ⊕ lit den, lit 2 ⊗ var num' ⊕ lit den))
+
+-- A quotient is rounded the same after both its numbers are multiplied.
+pub round-times : (num : ℤ) (den k : ℕ) → 0 < den → 0 < k → roundHalfUp (num *ℤ pos k) (k * den) ≡ roundHalfUp num den
+round-times num den k d l =
+    let r = round-of num den d in
+    let f = var num ⊗ lit k in
+    let low = mul-le-mul-left k (r .low) in
+    let high = mul-lt-mul-of-pos-left (r .high) l in
+    round-is (mul-pos l d) (omega arith)
 
 pub round-zero : (den : ℕ) → 0 < den → roundHalfUp (pos 0) den ≡ pos 0
 round-zero den h = round-is h (omega arith)

@@ -1,64 +1,64 @@
--- The cell around a point as it is read from an image, which points lie in such a cell, and the values there.
+-- The cell around a point as it is read from an image, which points lie in such a cell, and the values there. Bounds are those of the
+-- corrections; a cell may be of a grid inside them.
 use mathlib.Core.Bool.{Bool, true, false, cond, _&&_}
 use mathlib.Core.Path.{_≡_}
-use Prim.Native.Nat.{ℕ, _-_, _*_, _≤_}
+use Prim.Native.Nat.{ℕ, _-_, _≤_}
 use lib.IntN.{ℤ, pos}
-use Rattle.rules.specs.declared.Axis.{Axis}
 use Rattle.rules.specs.declared.Geometry.{Geometry}
-use Rattle.rules.specs.declared.Plane.{Plane}
-use Rattle.rules.specs.declared.Layout.{Layout}
 use Rattle.rules.specs.declared.Point.{Point}
 use Rattle.rules.specs.declared.Square.{Square}
 use Rattle.rules.specs.declared.Correction.{Correction}
 use Rattle.rules.specs.Units.{correctionLimit, quasiGeoidLimit}
 use Rattle.rules.specs.Answers.{Outcome, values, number, numberOf, ask}
 use Rattle.rules.specs.Image.{Grid}
-use Rattle.rules.specs.Limits.{GeometryPasses, InImage}
+use Rattle.rules.specs.Limits.{GeometryPasses}
 use Rattle.rules.specs.Bilinear.{offset, cellFor, partFor, corners, bilinear, valueAt}
 use Rattle.rules.specs.Lookup.{inside, squarePasses, question9, correctionsAt}
 use Rattle.axis.specs.Place.{reaches}
 use Rattle.bilinear.specs.Mean.{Spacing, InCell}
-use Rattle.lookup.specs.declared.HeldCell.{HeldCell}
+use Rattle.lookup.specs.declared.Spacings.{Spacings}
 use Rattle.lookup.specs.declared.CellCorners.{CellCorners}
+use Rattle.lookup.specs.declared.HeldCell.{HeldCell}
 use Rattle.lookup.specs.declared.PointValues.{PointValues}
 use Rattle.lookup.specs.declared.PointLookup.{PointLookup}
 use Rattle.lookup.specs.declared.PointLookup.the-variants as looked-up
-use Rattle.rules.specs.declared.Run.{Run}
-use Rattle.rules.specs.declared.Runs.{Runs}
 use Rattle.lookup.specs.declared.Offsets.{Offsets}
 use Rattle.lookup.specs.declared.PlaceInCell.{PlaceInCell}
 use Rattle.lookup.specs.declared.CellPlace.{CellPlace}
 
--- A plane's first byte and stride, those of a layout's planes, and the plane that they are with a geometry.
-abbrev pub runOf : Plane → Run
-runOf p = record { first = p .first; stride = p .stride }
+-- A point in the bounds of a geometry that questions 3 to 5 let pass.
+pub record Bounded (g : Geometry) (p : Point) : Type 0 where
+  pub geometry : GeometryPasses g
+  pub point : inside g p ≡ true
 
-abbrev pub runsOf : Layout → Runs
-runsOf l = record { latitude = runOf (l .latitude); longitude = runOf (l .longitude); height = runOf (l .height) }
+-- The spacings of a grid.
+abbrev pub spacingsOf : Geometry → Spacings
+spacingsOf g = record { latitude = g .latitude .spacing; longitude = g .longitude .spacing }
 
-abbrev pub planeOf : Geometry → Run → Plane
-planeOf g r = record { geometry = g; first = r .first; stride = r .stride }
+-- How far a point in the bounds lies from the south and the west bound.
+abbrev pub offsetsOf : Geometry → Point → Offsets
+offsetsOf g p = record { northing = offset (g .latitude) (p .latitude); easting = offset (g .longitude) (p .longitude) }
 
--- The layout of three planes with one geometry. Where the heights stand on a separate grid it is read for corrections alone.
-abbrev pub layoutFrom : (separate : Bool) → Geometry → Runs → Layout
-layoutFrom separate g r =
-    record { separate = separate; latitude = planeOf g (r .latitude); longitude = planeOf g (r .longitude); height = planeOf g (r .height) }
-
--- The planes that a cell is read from are in an image of `size` bytes: those of the corrections, and that of the heights
--- where these stand at the same nodes.
-pub record CellsOpen (size : ℕ) (separate : Bool) (g : Geometry) (r : Runs) : Type 0 where
-  pub latitude : InImage size (planeOf g (r .latitude))
-  pub longitude : InImage size (planeOf g (r .longitude))
-  pub height : separate ≡ false → InImage size (planeOf g (r .height))
+-- The cell of a point in the bounds, and the point's place in it.
+abbrev pub cellPlace : Geometry → Point → CellPlace
+cellPlace g p =
+    record {
+      row = cellFor (g .latitude) (p .latitude);
+      column = cellFor (g .longitude) (p .longitude);
+      at = record { u = partFor (g .latitude) (p .latitude); v = partFor (g .longitude) (p .longitude) };
+    }
 
 -- A square of four corner values.
 abbrev pub square : (sw se nw ne : ℤ) → Square
 square sw se nw ne = record { southwest = sw; southeast = se; northwest = nw; northeast = ne }
 
--- The heights at the corners of the cell of a row and a column: zeros where they stand on a separate grid, since a cell of corrections then
--- has none.
+abbrev pub zeros : Square
+zeros = square (pos 0) (pos 0) (pos 0) (pos 0)
+
+-- The heights at the corners of the cell of a row and a column: zeros, which pass question 9, where they stand on a separate grid, since a
+-- cell of corrections then has none.
 abbrev pub heightCorners : (separate : Bool) → (ℕ → ℕ → ℤ) → (row column : ℕ) → Square
-heightCorners separate f row column = cond separate (square (pos 0) (pos 0) (pos 0) (pos 0)) (corners f row column)
+heightCorners separate f row column = cond separate zeros (corners f row column)
 
 -- Each value there.
 abbrev pub cellCorners : Grid → (row column : ℕ) → CellCorners
@@ -75,101 +75,80 @@ cornersPass c =
     squarePasses correctionLimit (c .latitude)
     && (squarePasses correctionLimit (c .longitude) && squarePasses quasiGeoidLimit (c .height))
 
--- The offset of the south or west side of an angle's cell.
-abbrev pub sideFor : Axis → ℤ → ℕ
-sideFor a z = cellFor a z * a .spacing
-
--- The cell of a row and a column, whose sides have these offsets.
-unfoldable pub heldCell : Grid → (row column south west : ℕ) → HeldCell
-heldCell g row column south west =
-    let c = cellCorners g row column in
+-- The cell with these corners in which a point in the bounds has a place.
+abbrev pub heldCell : (bounds : Geometry) → Point → PlaceInCell → Spacings → CellCorners → HeldCell
+heldCell bounds p at s c =
     record {
-      south = south;
-      west = west;
-      latitude = c .latitude;
-      longitude = c .longitude;
-      height = c .height;
+      south = offsetsOf bounds p .northing - at .u;
+      west = offsetsOf bounds p .easting - at .v;
+      spacings = s;
+      corners = c;
       passes = cornersPass c;
     }
 
--- The cell of a point in the bounds; a and o are the latitude and the longitude axis.
-unfoldable pub heldAt : Grid → Point → HeldCell
-heldAt g p =
-    let a = g .corrections .latitude in
-    let o = g .corrections .longitude in
-    heldCell g (cellFor a (p .latitude)) (cellFor o (p .longitude)) (sideFor a (p .latitude)) (sideFor o (p .longitude))
+-- The cell of a grid around a point in its bounds.
+unfoldable pub heldAt : (bounds : Geometry) → Grid → Point → HeldCell
+heldAt bounds g p =
+    let cell = cellPlace (g .corrections) p in
+    heldCell bounds p (cell .at) (spacingsOf (g .corrections)) (cellCorners g (cell .row) (cell .column))
 
--- A point in the bounds of a geometry that questions 3 to 5 let pass.
-pub record Bounded (g : Geometry) (p : Point) : Type 0 where
-  pub geometry : GeometryPasses g
-  pub point : inside g p ≡ true
-
--- How far a point in the bounds lies from the south and the west bound.
-abbrev pub offsetsOf : Geometry → Point → Offsets
-offsetsOf g p = record { northing = offset (g .latitude) (p .latitude); easting = offset (g .longitude) (p .longitude) }
-
--- The cell of a point in the bounds, and the point's place in it.
-abbrev pub cellPlace : Geometry → Point → CellPlace
-cellPlace g p =
+-- The cell before one is read, in which no point lies.
+abbrev pub noCell : HeldCell
+noCell =
     record {
-      row = cellFor (g .latitude) (p .latitude);
-      column = cellFor (g .longitude) (p .longitude);
-      at = record { u = partFor (g .latitude) (p .latitude); v = partFor (g .longitude) (p .longitude) };
+      south = 0;
+      west = 0;
+      spacings = record { latitude = 0; longitude = 0 };
+      corners = record { latitude = zeros; longitude = zeros; height = zeros };
+      passes = false;
     }
 
+-- A point at or past both sides of a held cell, and less than one spacing from each.
+unfoldable pub liesIn : HeldCell → (bounds : Geometry) → Point → Bool
+liesIn h bounds p =
+    reaches (h .south) (h .spacings .latitude) (offsetsOf bounds p .northing)
+    && reaches (h .west) (h .spacings .longitude) (offsetsOf bounds p .easting)
+
 -- The place of a point in a held cell.
-abbrev pub placeIn : HeldCell → Geometry → Point → PlaceInCell
-placeIn h g p =
-    record { u = offsetsOf g p .northing - h .south; v = offsetsOf g p .easting - h .west }
+abbrev pub placeIn : HeldCell → (bounds : Geometry) → Point → PlaceInCell
+placeIn h bounds p = record { u = offsetsOf bounds p .northing - h .south; v = offsetsOf bounds p .easting - h .west }
 
 -- Spacings that question 4 lets pass.
-abbrev pub SpacingsPass : Geometry → Type 0
-SpacingsPass g = Spacing (g .latitude .spacing) × Spacing (g .longitude .spacing)
+abbrev pub SpacingsPass : Spacings → Type 0
+SpacingsPass s = Spacing (s .latitude) × Spacing (s .longitude)
 
--- A place in a cell of the geometry, its sides included.
-abbrev pub InCellOf : Geometry → PlaceInCell → Type 0
-InCellOf g at = InCell (at .u) (at .v) (g .latitude .spacing) (g .longitude .spacing)
-
--- A point at or past both sides of a held cell, and less than one spacing from each.
-unfoldable pub liesIn : HeldCell → Geometry → Point → Bool
-liesIn h g p =
-    reaches (h .south) (g .latitude .spacing) (offsetsOf g p .northing)
-    && reaches (h .west) (g .longitude .spacing) (offsetsOf g p .easting)
-
--- The corners of a held cell.
-abbrev pub cornersOf : HeldCell → CellCorners
-cornersOf h = record { latitude = h .latitude; longitude = h .longitude; height = h .height }
+-- A place in a cell of these spacings, its sides included.
+abbrev pub InCellOf : Spacings → PlaceInCell → Type 0
+InCellOf s at = InCell (at .u) (at .v) (s .latitude) (s .longitude)
 
 -- A held cell holds a point in the bounds that is at or past both of its sides, and at most one spacing from each. The cell's answer to
 -- question 9 is that of its corners.
-pub record Holds (h : HeldCell) (g : Geometry) (p : Point) : Type 0 where
-  pub bounded : Bounded g p
-  pub south : h .south ≤ offsetsOf g p .northing
-  pub west : h .west ≤ offsetsOf g p .easting
-  pub place : InCellOf g (placeIn h g p)
-  pub asked : h .passes ≡ cornersPass (cornersOf h)
+pub record Holds (h : HeldCell) (bounds : Geometry) (p : Point) : Type 0 where
+  pub bounded : Bounded bounds p
+  pub south : h .south ≤ offsetsOf bounds p .northing
+  pub west : h .west ≤ offsetsOf bounds p .easting
+  pub place : InCellOf (h .spacings) (placeIn h bounds p)
+  pub asked : h .passes ≡ cornersPass (h .corners)
 
--- The bilinear value of a square's corners at a place in a cell, and at a point's place in a held cell.
-unfoldable pub valueIn : Square → Geometry → PlaceInCell → ℤ
-valueIn c g at = bilinear c (at .u) (at .v) (g .latitude .spacing) (g .longitude .spacing)
+-- The bilinear value of a square's corners at a place in a cell.
+unfoldable pub valueIn : Square → Spacings → PlaceInCell → ℤ
+valueIn c s at = bilinear c (at .u) (at .v) (s .latitude) (s .longitude)
 
-abbrev pub valueBetween : Square → HeldCell → Geometry → Point → ℤ
-valueBetween c h g p = valueIn c g (placeIn h g p)
+-- At a point in a held cell the corrections, and after question 9 the height.
+abbrev pub correctionsIn : HeldCell → (bounds : Geometry) → Point → Correction
+correctionsIn h bounds p =
+    let at = placeIn h bounds p in
+    record { latitude = valueIn (h .corners .latitude) (h .spacings) at; longitude = valueIn (h .corners .longitude) (h .spacings) at }
 
--- The height there, after question 9.
-abbrev pub heightIn : HeldCell → Geometry → Point → Outcome ℤ
-heightIn h g p = ask (h .passes) 9 (values (valueBetween (h .height) h g p))
-
--- The corrections there.
-abbrev pub correctionsIn : HeldCell → Geometry → Point → Correction
-correctionsIn h g p = record { latitude = valueBetween (h .latitude) h g p; longitude = valueBetween (h .longitude) h g p }
+abbrev pub heightIn : HeldCell → (bounds : Geometry) → Point → Outcome ℤ
+heightIn h bounds p = ask (h .passes) 9 (values (valueIn (h .corners .height) (h .spacings) (placeIn h bounds p)))
 
 -- All three values at a place in a cell.
-abbrev pub valuesIn : CellCorners → Geometry → PlaceInCell → PointValues
-valuesIn c g at =
+abbrev pub valuesIn : CellCorners → Spacings → PlaceInCell → PointValues
+valuesIn c s at =
     record {
-      correction = record { latitude = valueIn (c .latitude) g at; longitude = valueIn (c .longitude) g at };
-      height = valueIn (c .height) g at;
+      correction = record { latitude = valueIn (c .latitude) s at; longitude = valueIn (c .longitude) s at };
+      height = valueIn (c .height) s at;
     }
 
 -- The lookup of all values at a point in the bounds, on one grid: question 9 for its cell, then the values.

@@ -7,6 +7,7 @@ use ntv2::corrections_from_ntv2;
 use refusals::refusal_number;
 use rules::Checked;
 use rules::FileAnswer;
+use rules::FileGridsAnswer;
 use rules::Notation;
 use rules::Reading;
 use rules::Writing;
@@ -18,10 +19,10 @@ ghost use Rattle.rules.specs.Answers.{statusOf, after};
 ghost use Rattle.rules.specs.Check.{gridCheck, findingsAfter};
 ghost use Rattle.rules.specs.Lists.{listOut, listBack, afterOut, afterBack};
 ghost use Rattle.rules.specs.Notation.{readParts, writeNotation, notationAfter};
-ghost use Rattle.rules.specs.Limits.{HandedBack};
-ghost use Rattle.rules.specs.Files.{fileAnswerOf, geometryAfter};
+ghost use Rattle.rules.specs.Limits.{HandedBack, BothHandedBack};
+ghost use Rattle.rules.specs.Files.{fileAnswerOf, gridsAnswerOf, geometryAfter, geometriesAfter};
 ghost use Rattle.rules.specs.Vdatum.{heightsFrom, heightsAfter};
-ghost use Rattle.rules.specs.Ntv2.{correctionsFrom, correctionsAfter};
+ghost use Rattle.rules.specs.Ntv2.{correctionsFrom, correctionsAfter, denseCorrectionsAfter};
 
 // The grid check: 0 with the six findings written, or the number.
 #[no_mangle]
@@ -125,22 +126,26 @@ pub extern "C" fn marker_heights_from_vdatum(
     hand_back(heights_from_vdatum(file, nodes), geometry)
 }
 
-// The conversion of an NTv2 file: 0 with the correction nodes and the geometry written, or the number.
+// The conversion of an NTv2 file: 0 with the nodes of its first grid, those of its subgrid and both geometries written, or the number.
 #[no_mangle]
 pub extern "C" fn marker_corrections_from_ntv2(
     file: &[u8],
     nodes: &mut [u8],
-    geometry: &mut [i64; 6],
+    dense: &mut [u8],
+    geometry: &mut [i64; 12],
 ) -> i64
-    ensures number { λ r. ⌜ r ≡ statusOf (correctionsFrom (now (file .entry)) (length (now (nodes .entry)))) ⌝ }
-    ensures nodes { λ _. ⌜ now (nodes .exit) ≡ correctionsAfter (now (file .entry)) (now (nodes .entry)) ⌝ }
+    ensures number { λ r. ⌜ r
+        ≡ statusOf (correctionsFrom (now (file .entry)) (length (now (nodes .entry))) (length (now (dense .entry)))) ⌝ }
+    ensures nodes { λ _. ⌜ now (nodes .exit) ≡ correctionsAfter (now (file .entry)) (now (nodes .entry)) (now (dense .entry)) ⌝ }
+    ensures dense { λ _. ⌜ now (dense .exit) ≡ denseCorrectionsAfter (now (file .entry)) (now (nodes .entry)) (now (dense .entry)) ⌝ }
     ensures geometry { λ _. ⌜ now (geometry .exit)
-        ≡ geometryAfter (correctionsFrom (now (file .entry)) (length (now (nodes .entry)))) (now (geometry .entry)) ⌝ }
+        ≡ geometriesAfter (correctionsFrom (now (file .entry)) (length (now (nodes .entry))) (length (now (dense .entry))))
+        (now (geometry .entry)) ⌝ }
 {
-    hand_back(corrections_from_ntv2(file, nodes), geometry)
+    hand_back_both(corrections_from_ntv2(file, nodes, dense), geometry)
 }
 
-// What the conversion of a grid file gives: 0 with the geometry written, or the number.
+// What the conversion of a VDatum file gives: 0 with the geometry written, or the number.
 fn hand_back(answer: FileAnswer, geometry: &mut [i64; 6]) -> i64
     requires { ⌜ HandedBack (fileAnswerOf answer) ⌝ }
     ensures number { λ r. ⌜ r ≡ statusOf (fileAnswerOf answer) ⌝ }
@@ -161,5 +166,35 @@ fn hand_back(answer: FileAnswer, geometry: &mut [i64; 6]) -> i64
             0
         }
         FileAnswer::Refused(r) => refusal_number(r),
+    }
+}
+
+// What the conversion of an NTv2 file gives: 0 with both geometries written, or the number.
+fn hand_back_both(answer: FileGridsAnswer, geometry: &mut [i64; 12]) -> i64
+    requires { ⌜ BothHandedBack (gridsAnswerOf answer) ⌝ }
+    ensures number { λ r. ⌜ r ≡ statusOf (gridsAnswerOf answer) ⌝ }
+    ensures geometry { λ _. ⌜ now (geometry .exit) ≡ geometriesAfter (gridsAnswerOf answer) (now (geometry .entry)) ⌝ }
+{
+    match answer {
+        FileGridsAnswer::Converted(g) => {
+            let coarse = g.coarse;
+            let dense = g.dense;
+            *geometry = [
+                coarse.latitude.start,
+                coarse.longitude.start,
+                coarse.latitude.spacing as i64,
+                coarse.longitude.spacing as i64,
+                coarse.latitude.count as i64,
+                coarse.longitude.count as i64,
+                dense.latitude.start,
+                dense.longitude.start,
+                dense.latitude.spacing as i64,
+                dense.longitude.spacing as i64,
+                dense.latitude.count as i64,
+                dense.longitude.count as i64,
+            ];
+            0
+        }
+        FileGridsAnswer::Refused(r) => refusal_number(r),
     }
 }

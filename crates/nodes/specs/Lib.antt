@@ -1,2 +1,3 @@
 -- What the contracts of the values' readers cite.
 pub mod Row
+pub mod Either

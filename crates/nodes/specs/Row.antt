@@ -3,6 +3,7 @@ use mathlib.Core.List.{List}
 use Prim.Native.Nat.{ℕ, _+_, _*_}
 use lib.IntN.{ℤ}
 use Rattle.rules.specs.declared.Plane.{Plane}
+use Rattle.rules.specs.declared.Square.{Square}
 use Rattle.rules.specs.Image.{i32At, columns}
 use Rattle.nodes.specs.declared.Pair.{Pair}
 
@@ -17,3 +18,13 @@ valueIn row stride column = i32At row (stride * column)
 -- The values of a column and of the next, of values by column.
 abbrev pub pairOf : (ℕ → ℤ) → ℕ → Pair
 pairOf f column = record { west = f column; east = f (column + 1) }
+
+-- The corners of a cell from those of its south row and of its north row.
+abbrev pub squareOf : (south north : Pair) → Square
+squareOf south north =
+    record {
+      southwest = south .west;
+      southeast = south .east;
+      northwest = north .west;
+      northeast = north .east;
+    }

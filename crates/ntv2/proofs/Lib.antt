@@ -1,4 +1,3 @@
--- Laws of a file: how an axis is read, how refusals 18 and 19 are tested, and what a converted geometry is.
-pub mod Axes
-pub mod Header
+-- Laws about refusals 18 and 19.
+pub mod Passing
 pub mod Shifts

@@ -10,8 +10,8 @@ use lib.Dec.{leb}
 use Rattle.integers.specs.Booleans.{and-left, and-right}
 use Rattle.rules.specs.Units.{correctionLimit}
 use Rattle.rules.specs.Floats.{binary32}
-use Rattle.rules.specs.Ntv2.{fromArcseconds, arcseconds, latitudeShift, longitudeShift, latitudeFrom, longitudeFrom, shiftsFit, question19}
-use Rattle.rules.specs.Ntv2.{fileNode}
+use Rattle.rules.specs.Ntv2.{fromArcseconds, arcseconds, latitudeShift, longitudeShift, latitudeFrom, longitudeFrom, shiftsFit}
+use Rattle.rules.specs.Ntv2.{allShiftsFit, fileNode}
 use Rattle.rules.proofs.Largest.{every-at}
 use Rattle.floats.specs.Sizes.{roundedSize}
 use Rattle.floats.specs.Turned.{Turned}
@@ -66,7 +66,7 @@ node-below rows columns row column i j =
     let below = mul-le-mul-right {m = row + 1} {n = rows} columns (omega arith) in
     omega (arith, below)
 
-pub row-fits : (b : List ℕ) (rows columns row : ℕ) → question19 b (rows * columns) ≡ true → row < rows → RowFits b columns row
-unfolding question19 RowFits
+pub row-fits : (b : List ℕ) (rows columns row : ℕ) → allShiftsFit b (rows * columns) ≡ true → row < rows → RowFits b columns row
+unfolding allShiftsFit RowFits
 row-fits b rows columns row q i column j =
     every-at (rows * columns) (shiftsFit b) q (fileNode columns row column) (node-below rows columns row column i j)

@@ -1,5 +1,5 @@
--- A theorem for readers: the bytes that the conversion of a file writes are, put anywhere into an image, read back as the corrections of
--- the file's nodes, each row turned from east to west.
+-- Two theorems for readers: the bytes that the conversion of a file writes into either buffer are, put anywhere into an image, read back as
+-- the corrections of the grid's nodes, each row turned from east to west.
 use mathlib.Core.Bool.{true, _&&_}
 use mathlib.Core.List.{List, _++_, append-assoc}
 use mathlib.Core.Path.{_≡_, refl, _∙_, subst}
@@ -11,13 +11,15 @@ use lib.ListN.{length, length-append}
 use borrow.Author.Tests.{leb-true}
 use Rattle.integers.specs.Booleans.{and-left, and-right}
 use Rattle.rules.specs.declared.Geometry.{Geometry}
+use Rattle.rules.specs.declared.FileGrids.{FileGrids}
 use Rattle.rules.specs.Units.{correctionLimit}
 use Rattle.rules.specs.Answers.{values}
 use Rattle.rules.specs.Image.{rows, columns, plane}
 use Rattle.rules.specs.Floats.{binary32, finite}
 use Rattle.rules.specs.Files.{bytesOf, inSequence}
-use Rattle.rules.specs.Ntv2.{gridHeaderOf, nodeCount, question18, latitudeShift, longitudeShift, latitudeFrom, longitudeFrom, shiftsFit}
-use Rattle.rules.specs.Ntv2.{question19, fileNode, correctionNode, correctionRow, correctionNodes, correctionsFrom, correctionsAfter}
+use Rattle.rules.specs.Ntv2.{nodeCount, firstGrid, subgridAfter, question18, gridsOf, latitudeShift, longitudeShift, latitudeFrom}
+use Rattle.rules.specs.Ntv2.{longitudeFrom, shiftsFit, allShiftsFit, question19, fileNode, correctionNode, correctionRow, correctionNodes}
+use Rattle.rules.specs.Ntv2.{correctionsFrom, correctionsAfter, denseCorrectionsAfter}
 use Rattle.rules.proofs.Answers.{asked}
 use Rattle.rules.proofs.Largest.{every-at}
 use Rattle.rules.proofs.Buffer.{parts-long, part-among, bytes-read}
@@ -64,21 +66,29 @@ unfolding shiftsFit
 longitude-most b n h =
     leb-true _ _ (and-right (finite binary32 (longitudeShift b n)) _ (and-right (finite binary32 (latitudeShift b n) && _) _ h))
 
--- Where a file was converted into a buffer and the buffer burned into an image, anywhere, the image's planes that begin there have at each
--- row and column both corrections of the file's node for it.
-pub burned : (b buffer before end : List ℕ) (g : Geometry) → correctionsFrom b (length buffer) ≡ values g → (row column : ℕ) →
-    let image = before ++ (correctionsAfter b buffer ++ end) in
+-- What a conversion tells of the nodes: all pass.
+fit : (b : List ℕ) (room denseRoom : ℕ) (g : FileGrids) → correctionsFrom b room denseRoom ≡ values g
+    → question19 b (nodeCount (g .coarse)) (nodeCount (g .dense)) ≡ true
+unfolding correctionsFrom
+fit b room denseRoom g e =
+    let room-fits = asked (question18 b room denseRoom) 18 _ g e in
+    let all = asked (question19 b (nodeCount (gridsOf b .coarse)) (nodeCount (gridsOf b .dense))) 19 _ g (room-fits .1) in
+    let same : gridsOf b ≡ g = cc in
+    subst (λ (g : FileGrids). question19 b (nodeCount (g .coarse)) (nodeCount (g .dense)) ≡ true) same (all .0)
+
+-- Where a grid's nodes all pass and were written into an image, anywhere, the image's planes that begin there have at each row and column
+-- both corrections of the grid's node for it.
+abbrev Reads : (image grid : List ℕ) → Geometry → (first row column : ℕ) → Type 0
+Reads image grid g first row column =
     let n = fileNode (columns g) row column in
-    row < rows g → column < columns g
-    → (plane image (record { geometry = g; first = length before; stride = 8 }) row column ≡ latitudeFrom b n)
-    × (plane image (record { geometry = g; first = length before + 4; stride = 8 }) row column ≡ longitudeFrom b n)
-unfolding correctionsFrom question19 correctionNodes plane correctionNode
-burned b buffer before end g e row column i j =
+    (plane image (record { geometry = g; first = first; stride = 8 }) row column ≡ latitudeFrom grid n)
+    × (plane image (record { geometry = g; first = first + 4; stride = 8 }) row column ≡ longitudeFrom grid n)
+
+nodes-read : (grid before end : List ℕ) (g : Geometry) (row column : ℕ) → allShiftsFit grid (nodeCount g) ≡ true → row < rows g
+    → column < columns g → Reads (before ++ (correctionNodes grid g ++ end)) grid g (length before) row column
+unfolding allShiftsFit correctionNodes plane correctionNode
+nodes-read b before end g row column q i j =
     let n = fileNode (columns g) row column in
-    let room = asked (question18 b (length buffer)) 18 _ g e in
-    let all = asked (question19 b (nodeCount (gridHeaderOf b))) 19 _ g (room .1) in
-    let same : gridHeaderOf b ≡ g = cc in
-    let q = subst (λ (g : Geometry). question19 b (nodeCount g) ≡ true) same (all .0) in
     let below = mul-le-mul-right {m = row + 1} {n = rows g} (columns g) (omega (arith, i)) in
     let fits = every-at (nodeCount g) (shiftsFit b) q n (omega (arith, below, j)) in
     let r = node-among b (columns g) (rows g) row column i j in
@@ -96,4 +106,24 @@ burned b buffer before end g e row column i j =
     append-assoc front latitude _ ∙ parts in
     let first = bytes-read front (longitude ++ (r .0 ++ end)) (latitudeFrom b n) (omega (arith, latitude-most b n fits)) in
     let second = bytes-read (front ++ latitude) (r .0 ++ end) (longitudeFrom b n) (omega (arith, longitude-most b n fits)) in
-    rw e (rw (parts, long) at first, rw (parts-2, long-2) at second)
+    (rw (parts, long) at first, rw (parts-2, long-2) at second)
+
+-- So it is where a file was converted into two buffers and either one was burned into an image.
+pub burned : (b buffer denseBuffer before end : List ℕ) (g : FileGrids) → correctionsFrom b (length buffer) (length denseBuffer) ≡ values g
+    → (row column : ℕ) → row < rows (g .coarse) → column < columns (g .coarse)
+    → Reads (before ++ (correctionsAfter b buffer denseBuffer ++ end)) (firstGrid b) (g .coarse) (length before) row column
+unfolding question19
+burned b buffer denseBuffer before end g e row column i j =
+    let q = fit b _ _ g e in
+    let fits = and-left (allShiftsFit (firstGrid b) (nodeCount (g .coarse))) _ q in
+    rw e (nodes-read (firstGrid b) before end (g .coarse) row column fits i j)
+
+pub dense-burned : (b buffer denseBuffer before end : List ℕ) (g : FileGrids)
+    → correctionsFrom b (length buffer) (length denseBuffer) ≡ values g → (row column : ℕ) → row < rows (g .dense)
+    → column < columns (g .dense) → let dense = subgridAfter b (nodeCount (g .coarse)) in
+    Reads (before ++ (denseCorrectionsAfter b buffer denseBuffer ++ end)) dense (g .dense) (length before) row column
+unfolding question19
+dense-burned b buffer denseBuffer before end g e row column i j =
+    let q = fit b _ _ g e in
+    let fits = and-right (allShiftsFit (firstGrid b) (nodeCount (g .coarse))) _ q in
+    rw e (nodes-read (subgridAfter b (nodeCount (g .coarse))) before end (g .dense) row column fits i j)

@@ -1,3 +1,3 @@
--- What the contracts of the file's readers cite beside the rules, and a theorem for readers.
+-- What the contracts of the nodes' readers cite beside the rules, and two theorems for readers.
 pub mod Reading
 pub mod Burned

@@ -21,7 +21,7 @@ ghost use Rattle.rules.specs.Image.{layoutFor};
 ghost use Rattle.rules.specs.Questions.{opening};
 ghost use Rattle.rules.specs.Lookup.{heightLookupOf};
 ghost use Rattle.rules.specs.Ways.{wayOut, answerOf};
-ghost use Rattle.source.specs.Asked.{OpenAround};
+ghost use Rattle.rules.specs.Limits.{OpenAround};
 ghost use Rattle.opened.specs.Over.{Opens, IsLookup, IsOut, quasiGeoidHeight};
 
 // The lent bytes of an image, and the layout of its values.

@@ -28,5 +28,7 @@ pub fn refusal_number(r: Refusal) -> i64
         Refusal::VdatumHeight => 17,
         Refusal::Ntv2File => 18,
         Refusal::Ntv2Shift => 19,
+        Refusal::DenseAlignment => 20,
+        Refusal::DenseBorder => 21,
     }
 }

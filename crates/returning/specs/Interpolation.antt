@@ -1,7 +1,7 @@
 -- The bilinear value over any values by row and column: it is within the nodes' limit, and it is a line over lines, so that the steps
 -- between neighbours bound its change.
 use mathlib.Core.Bool.{true}
-use mathlib.Core.Path.{_≡_, ap}
+use mathlib.Core.Path.{_≡_, refl, ap}
 use Prim.Native.Nat.{ℕ, _+_, _*_, _≤_, _<_, _/_}
 use native.Mathlib.Nat.{mul-le-mul, mul-le-mul-left, mul-le-mul-right}
 use native.Mathlib.Omega.{arith}
@@ -13,7 +13,7 @@ use Rattle.rules.specs.declared.Geometry.{Geometry}
 use Rattle.rules.specs.declared.Point.{Point}
 use Rattle.rules.specs.Image.{rows, columns}
 use Rattle.rules.specs.Limits.{GeometryPasses}
-use Rattle.rules.specs.Bilinear.{weighted, bilinear, valueAt}
+use Rattle.rules.specs.Bilinear.{weighted, bilinear, valueAt, exactSum, area}
 use Rattle.rules.specs.Lookup.{inside}
 use Rattle.rules.proofs.Cells.{offset-most, part-most, on-latitude, on-longitude}
 use Rattle.rules.proofs.Corners.{cell-within}
@@ -30,10 +30,10 @@ times-pair a b s t v =
     let e : (up w + down a * t + down b * v) * s ≡ (down w + up a * t + up b * v) * s = ap (λ (n : ℕ). n * s) (pair-parts a b t v) in
     omega arith
 
-nested : (a b c d : ℤ) (s u t v : ℕ)
+pair-of-pairs : (a b c d : ℤ) (s u t v : ℕ)
     → a *ℤ pos (s * t) +ℤ b *ℤ pos (s * v) +ℤ c *ℤ pos (u * t) +ℤ d *ℤ pos (u * v)
     ≡ weightedPair (weightedPair a b t v) (weightedPair c d t v) s u
-nested a b c d s u t v =
+pair-of-pairs a b c d s u t v =
     omega (
       arith,
       order,
@@ -43,16 +43,17 @@ nested a b c d s u t v =
       times-pair c d u t v,
     )
 
--- P × Q, and P × Q times the exact value at a point.
-abbrev pub area : Geometry → ℕ
-area g = g .latitude .spacing * g .longitude .spacing
-
+-- P × Q times the exact value at a point, as a line over lines.
 unfoldable pub surface : Geometry → (ℕ → ℕ → ℤ) → Point → ℤ
 surface g f p = line (g .latitude) (λ row. line (g .longitude) (f row) (p .longitude)) (p .latitude)
 
-pub value-is : (g : Geometry) (f : ℕ → ℕ → ℤ) (p : Point) → valueAt g f p ≡ roundHalfUp (surface g f p) (area g)
-unfolding valueAt bilinear weighted surface line
-value-is g f p = ap (λ (z : ℤ). roundHalfUp z (area g)) (nested _ _ _ _ _ _ _ _)
+pub sum-is : (g : Geometry) (f : ℕ → ℕ → ℤ) (p : Point) → exactSum g f p ≡ surface g f p
+unfolding exactSum weighted surface line
+sum-is g f p = pair-of-pairs _ _ _ _ _ _ _ _
+
+pub value-is : (g : Geometry) (f : ℕ → ℕ → ℤ) (p : Point) → valueAt g f p ≡ roundHalfUp (exactSum g f p) (area g)
+unfolding valueAt bilinear exactSum
+value-is g f p = refl
 
 -- One in a hundred, rounded up: the change that question 12 allows between points at most D apart. With it the proof of the iteration is a
 -- contraction with a Lipschitz constant of 1/100 (Iteration.antt).
@@ -98,6 +99,6 @@ module _ {g : Geometry} (o : GeometryPasses g) (f : ℕ → ℕ → ℤ) where
           let n = hundredth D in
           let m : D ≤ n * 100 = omega arith in
           let steep = A * g .longitude .spacing + B * g .latitude .spacing in
-          rw (value-is g f q, value-is g f r)
+          rw (value-is g f q, value-is g f r, sum-is g f q, sum-is g f r)
           (round-close (surface g f q) (surface g f r) (area g) n spaced
           (near-mono (omega (arith, mul-le-mul-right steep m, mul-le-mul-left n slope)) (surface-change D q r i j h)))

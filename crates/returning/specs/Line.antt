@@ -74,12 +74,12 @@ offset-near a z w n = omega (arith, abs-is (var z ⊖ var (a .start)), abs-is (v
 
 module _ {a : Axis} (o : Sized a) where
   -- Where an angle on the axis lies: its cell and its part of it.
-  record CellAndPart (z : ℤ) : Type 0 where
-    cell-in : cellFor a z + 1 < a .count
-    whole : a .spacing - partFor a z + partFor a z ≡ a .spacing
-    offset-is : cellFor a z * a .spacing + partFor a z ≡ offset a z
+  pub record CellAndPart (z : ℤ) : Type 0 where
+    pub cell-in : cellFor a z + 1 < a .count
+    pub whole : a .spacing - partFor a z + partFor a z ≡ a .spacing
+    pub offset-is : cellFor a z * a .spacing + partFor a z ≡ offset a z
 
-  cell-and-part : (z : ℤ) → onAxis a z ≡ true → CellAndPart z
+  pub cell-and-part : (z : ℤ) → onAxis a z ≡ true → CellAndPart z
   unfolding partOf
   cell-and-part z i =
       let x = offset a z in

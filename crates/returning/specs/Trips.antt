@@ -1,6 +1,6 @@
 -- Out and back, and back and out, over any source whose corrections and heights are limited and change slowly: the angles' half
 -- (Angles.antt), and the heights' half, which asks for a height only at the Bessel points of a trip.
-use mathlib.Core.Bool.{Bool, true}
+use mathlib.Core.Bool.{Bool, true, false}
 use mathlib.Core.List.{List}
 use mathlib.Core.Path.{_≡_, ap, _∙_}
 use Prim.Native.Nat.{ℕ, _≤_}
@@ -10,20 +10,23 @@ use borrow.Author.Tests.{le-leb}
 use Rattle.integers.specs.Difference.{var, _⊕_, _⊖_}
 use Rattle.integers.specs.Distance.{Near, size, abs-add, abs-is}
 use Rattle.integers.specs.Booleans.{and-both}
+use Rattle.rules.specs.declared.Layout.{Layout}
 use Rattle.rules.specs.declared.Point.{Point}
 use Rattle.rules.specs.declared.Correction.{Correction}
 use Rattle.rules.specs.declared.Position.{Position}
 use Rattle.rules.specs.declared.Way.{Way}
 use Rattle.rules.specs.declared.Way.the-variants as way
-use Rattle.rules.specs.Units.{quasiGeoidLimit, outHeightLimit, backHeightLimit, mostEvaluations, fixMargin, pointMargin, pointHeightLimit}
+use Rattle.rules.specs.Units.{quasiGeoidLimit, outHeightLimit, backHeightLimit, stopDistance, mostEvaluations}
+use Rattle.rules.specs.Units.{fixMargin, pointMargin, pointHeightLimit}
 use Rattle.rules.specs.Answers.{values}
-use Rattle.rules.specs.Ways.{Source, question7, plus, position, back, out, convertOver, convert}
-use Rattle.rules.specs.Promise.{pointOf, OutAndBack, BackAndOut}
+use Rattle.rules.specs.Ways.{Source, question7, plus, position, back, out, iterate, convertOver, convert, wayBack}
+use Rattle.rules.specs.Promise.{AnglesWithin, pointOf, returnDistance, OutAndBack, BackAndOut}
 use Rattle.rules.proofs.Answers.{asked, followed}
 use Rattle.returning.specs.Points.{close-within, within-close, close-mono, Room, room-itself, SteadyValue}
 use Rattle.returning.specs.Interpolation.{hundredth}
 use Rattle.returning.specs.Iteration.{Solution, itself}
-use Rattle.returning.specs.Angles.{SteadyAngles, Settles, ReturnsNear, fix-returns, others-near, goes-out, out-near, comes-back}
+use Rattle.returning.specs.Angles.{StopRule, stopAtOne, SteadyAngles, Settles, ReturnsNear}
+use Rattle.returning.specs.Angles.{goes-out, out-near, fix-returns, others-near, comes-back}
 
 -- What the heights' half asks of a source: in the heights' bounds, `heightInside`, a height is answered, and it is a steady value, within
 -- question 9's limit and with a change of at most one in a hundred, rounded up.
@@ -32,8 +35,9 @@ pub record SteadyHeights (s : Source) (heightInside : Point → Bool) (quasiGeoi
   pub value : SteadyValue heightInside hundredth quasiGeoidLimit quasiGeoid
 
 -- Both halves. The bounds of the corrections are the source's own.
-pub record SteadySource (s : Source) (at : Point → Correction) (heightInside : Point → Bool) (quasiGeoid : Point → ℤ) : Type 0 where
-  pub angles : SteadyAngles s at
+pub record SteadySource (s : Source) (at : Point → Correction) (rule : StopRule) (heightInside : Point → Bool) (quasiGeoid : Point → ℤ)
+    : Type 0 where
+  pub angles : SteadyAngles s at rule
   pub heights : SteadyHeights s heightInside quasiGeoid
 
 -- Room in both bounds.
@@ -57,8 +61,8 @@ back-solves s q H r h =
 pub height-returns : (H z w : ℤ) → Near (hundredth 2) w z → natAbs (H +ℤ z -ℤ w -ℤ H) ≤ 1
 height-returns H z w h = omega (arith, abs-is (var H ⊕ var z ⊖ var w ⊖ var H))
 
-module _ {s : Source} {at : Point → Correction} {heightInside : Point → Bool} {quasiGeoid : Point → ℤ}
-    (t : SteadySource s at heightInside quasiGeoid)
+module _ {s : Source} {at : Point → Correction} {rule : StopRule} {heightInside : Point → Bool} {quasiGeoid : Point → ℤ}
+    (t : SteadySource s at rule heightInside quasiGeoid)
   where
     in-limits : (limit : ℕ) (q : Point) (h : ℤ) → s .inside q ≡ true → natAbs h ≤ limit → question7 limit q h ≡ true
     unfolding question7
@@ -74,66 +78,89 @@ module _ {s : Source} {at : Point → Correction} {heightInside : Point → Bool
         rw (in-limits backHeightLimit q H i l, i, t .angles .corrections .answered q i, t .heights .answered q j)
 
     -- A fix whose way out settles at a point in the heights' bounds is answered going out.
-    pub out-values : {p : Point} (v : Settles s p mostEvaluations) (h : ℤ)
+    pub out-values : {p : Point} (v : Settles s (rule .stop) p mostEvaluations) (h : ℤ)
         → s .inside p ≡ true → heightInside (v .end .point) ≡ true → natAbs h ≤ outHeightLimit
         → convertOver way.Out s p h ≡ values (position (v .end .point) (h -ℤ quasiGeoid (v .end .point)) (v .end .count))
     unfolding out convertOver
-    out-values {p} v h i j l = rw (in-limits outHeightLimit p h i l, i, v .is, t .heights .answered (v .end .point) j)
+    out-values {p} v h i j l =
+        let e = ap (λ (stop : ℕ). iterate s stop p mostEvaluations 0 p) (t .angles .stop-is) ∙ v .is in
+        rw (in-limits outHeightLimit p h i l, i, e, t .heights .answered (v .end .point) j)
 
-    -- ---- the trips of an image whose conversions are the source's
-    module _ (b : List ℕ) (same : (w : Way) (p : Point) (h : ℤ) → convert w b p h ≡ convertOver w s p h) where
-      -- A fix whose way out settles at q.
-      pub fix-trip : (p : Point) (h : ℤ) (v : Settles s p mostEvaluations)
-          → s .inside p ≡ true → heightInside (v .end .point) ≡ true → natAbs h ≤ outHeightLimit → OutAndBack b p h
-      fix-trip p h v i j l =
-          let S = t .angles .corrections in
-          let w = v .solution in
-          let q = v .end .point in
-          let z = quasiGeoid q in
-          let H = h -ℤ z in
-          let k : natAbs H ≤ backHeightLimit = omega (arith, t .heights .value .limit q j, abs-is (var h ⊖ var z), size h, size z) in
-          record {
-            outward = position q H (v .end .count);
-            returned = position (plus q (at q)) (H +ℤ z) 1;
-            answered = same way.Out p h ∙ out-values v h i j l;
-            back-again = same way.Back q H ∙ back-values q H (w .in-bounds) j k;
-            returns = record {
-              at-least-one = v .at-least-one;
-              at-most-five = v .at-most;
-              angles = close-within (fix-returns S w);
-              height = -ℤ-+ℤ-cancel h z;
-              others = λ q′ H r a c. close-within (others-near S w (back-solves s q′ H r (rw (same way.Back q′ H) at a)) (within-close c));
-            };
-          }
+-- ---- the trips of an image whose conversions are the source's
+abbrev pub Converts : List ℕ → Source → Type 0
+Converts b s = (w : Way) (p : Point) (h : ℤ) → convert w b p h ≡ convertOver w s p h
 
-      -- A Bessel point q whose way back and out settles near it.
-      pub point-trip : (q : Point) (H : ℤ) (v : ReturnsNear s at q)
-          → s .inside q ≡ true → heightInside q ≡ true → heightInside (v .way .end .point) ≡ true → natAbs H ≤ pointHeightLimit
-          → BackAndOut b q H
-      point-trip q H v i j k l =
-          let p = plus q (at q) in
-          let r = v .way .end .point in
-          let z = quasiGeoid q in
-          let h = H +ℤ z in
-          let m : natAbs h ≤ outHeightLimit = omega (arith, t .heights .value .limit q j, abs-add H z) in
-          record {
-            etrs89 = position p h 1;
-            returned = position r (h -ℤ quasiGeoid r) (v .way .end .count);
-            answered = same way.Back q H ∙ back-values q H i j (omega arith);
-            out-again = same way.Out p h ∙ out-values (v .way) h (v .in-bounds) k m;
-            angles = close-within (v .angles);
-            heights = height-returns H z (quasiGeoid r) (t .heights .value .change r q 2 k j (v .angles));
-          }
+-- Every Bessel point that goes back to within 1 nd of p lies within 3 nd of q.
+abbrev pub OthersNear : List ℕ → (p q : Point) → Type 0
+OthersNear b p q = (q′ : Point) (H : ℤ) (r : Position) → wayBack b q′ H ≡ values r → AnglesWithin 1 (pointOf r) p → AnglesWithin 3 q′ q
 
-      -- ---- inside the margins from both bounds
-      pub fixes : (p : Point) (h : ℤ) → Rooms s heightInside fixMargin p → natAbs h ≤ outHeightLimit → OutAndBack b p h
-      fixes p h rooms l =
-          let v = goes-out (t .angles) p (rooms .corrections) in
-          let j = rooms .heights (v .end .point) (close-mono (omega arith) (out-near (t .angles) v)) in
-          fix-trip p h v (room-itself p (rooms .corrections)) j l
+-- Out and back over an image whose layout has at least the rule's return distance. What holds of other Bessel points is for images without
+-- a dense grid, below.
+module _ {s : Source} {at : Point → Correction} {rule : StopRule} {heightInside : Point → Bool} {quasiGeoid : Point → ℤ}
+    (t : SteadySource s at rule heightInside quasiGeoid) (b : List ℕ) (same : Converts b s)
+    (l : Layout) (near : rule .returned ≤ returnDistance l)
+    (others : l .nested ≡ false → (p q : Point) → Solution s (rule .stop) p q → OthersNear b p q)
+  where
+    -- A fix whose way out settles at q.
+    pub fix-trip : (p : Point) (h : ℤ) (v : Settles s (rule .stop) p mostEvaluations)
+        → s .inside p ≡ true → heightInside (v .end .point) ≡ true → natAbs h ≤ outHeightLimit → OutAndBack b l p h
+    fix-trip p h v i j m =
+        let q = v .end .point in
+        let w = v .solution in
+        let z = quasiGeoid q in
+        let H = h -ℤ z in
+        let k : natAbs H ≤ backHeightLimit = omega (arith, t .heights .value .limit q j, abs-is (var h ⊖ var z), size h, size z) in
+        record {
+          outward = position q H (v .end .count);
+          returned = position (plus q (at q)) (H +ℤ z) 1;
+          answered = same way.Out p h ∙ out-values t v h i j m;
+          back-again = same way.Back q H ∙ back-values t q H (w .in-bounds) j k;
+          returns = record {
+            at-least-one = v .at-least-one;
+            at-most-five = v .at-most;
+            angles = close-within (close-mono near (fix-returns (t .angles) w));
+            height = -ℤ-+ℤ-cancel h z;
+            others = λ e. others e p q w;
+          };
+        }
 
-      pub points : (q : Point) (H : ℤ) → Rooms s heightInside pointMargin q → natAbs H ≤ pointHeightLimit → BackAndOut b q H
-      points q H rooms l =
-          let v = comes-back (t .angles) q (rooms .corrections) in
-          let k = rooms .heights (v .way .end .point) (close-mono (omega arith) (v .angles)) in
-          point-trip q H v (room-itself q (rooms .corrections)) (room-itself q (rooms .heights)) k l
+    -- Inside the margins from both bounds.
+    pub fixes : (p : Point) (h : ℤ) → Rooms s heightInside fixMargin p → natAbs h ≤ outHeightLimit → OutAndBack b l p h
+    fixes p h rooms m =
+        let v = goes-out (t .angles) p (rooms .corrections) in
+        let j = rooms .heights (v .end .point) (close-mono (omega arith) (out-near (t .angles) (v .solution))) in
+        fix-trip p h v (room-itself p (rooms .corrections)) j m
+
+-- ---- without a dense grid
+module _ {s : Source} {at : Point → Correction} {heightInside : Point → Bool} {quasiGeoid : Point → ℤ}
+    (t : SteadySource s at stopAtOne heightInside quasiGeoid) (b : List ℕ) (same : Converts b s)
+  where
+    pub others : (p q : Point) → Solution s stopDistance p q → OthersNear b p q
+    others p q w q′ H r a c =
+        let v = back-solves s q′ H r (rw (same way.Back q′ H) at a) in
+        close-within (others-near (t .angles .corrections) w v (within-close c))
+
+    -- A Bessel point q whose way back and out settles near it.
+    pub point-trip : (q : Point) (H : ℤ) (v : ReturnsNear s at q)
+        → s .inside q ≡ true → heightInside q ≡ true → heightInside (v .way .end .point) ≡ true → natAbs H ≤ pointHeightLimit
+        → BackAndOut b q H
+    point-trip q H v i j k l =
+        let p = plus q (at q) in
+        let r = v .way .end .point in
+        let z = quasiGeoid q in
+        let h = H +ℤ z in
+        let m : natAbs h ≤ outHeightLimit = omega (arith, t .heights .value .limit q j, abs-add H z) in
+        record {
+          etrs89 = position p h 1;
+          returned = position r (h -ℤ quasiGeoid r) (v .way .end .count);
+          answered = same way.Back q H ∙ back-values t q H i j (omega arith);
+          out-again = same way.Out p h ∙ out-values t (v .way) h (v .in-bounds) k m;
+          angles = close-within (v .angles);
+          heights = height-returns H z (quasiGeoid r) (t .heights .value .change r q 2 k j (v .angles));
+        }
+
+    pub points : (q : Point) (H : ℤ) → Rooms s heightInside pointMargin q → natAbs H ≤ pointHeightLimit → BackAndOut b q H
+    points q H rooms l =
+        let v = comes-back (t .angles) q (rooms .corrections) in
+        let k = rooms .heights (v .way .end .point) (close-mono (omega arith) (v .angles)) in
+        point-trip q H v (room-itself q (rooms .corrections)) (room-itself q (rooms .heights)) k l

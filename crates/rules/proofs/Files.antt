@@ -8,10 +8,13 @@ use Rattle.integers.specs.Booleans.{all-three}
 use Rattle.rules.specs.declared.Axis.{Axis}
 use Rattle.rules.specs.declared.AxisRead.the-variants as axis
 use Rattle.rules.specs.declared.Geometry.{Geometry}
+use Rattle.rules.specs.declared.FileGrids.{FileGrids}
 use Rattle.rules.specs.Questions.{question3, question4, question5, questions3To5}
 use Rattle.rules.specs.Answers.{Outcome, values, number}
-use Rattle.rules.specs.Limits.{GeometryPasses, HandedBack}
+use Rattle.rules.specs.Units.{latitudeLimit, longitudeLimit}
+use Rattle.rules.specs.Limits.{AxisPasses, GeometryPasses, HandedBack, SmallAxis, SmallGeometry, BothHandedBack}
 use Rattle.rules.specs.Files.{natural}
+use Rattle.rules.specs.Ntv2.{noAxis, noGeometry}
 use Rattle.rules.proofs.Opening.{geometry-passes}
 
 -- What an axis that was read tells.
@@ -36,6 +39,33 @@ questions-establish g h = let a = all-three (question3 g) (question4 g) (questio
 pub handed-back : (o : Outcome Geometry) → ((g : Geometry) → o ≡ values g → GeometryPasses g) → HandedBack o
 handed-back (values g) h = h g refl
 handed-back (number n) h = tt
+
+-- Geometries that are handed back together have small numbers: one that passes, and the one of no grid.
+small-axis : (limit : ℕ) (a : Axis) → limit ≤ longitudeLimit → AxisPasses limit a → SmallAxis a
+small-axis limit a l p =
+    record {
+      start-within = omega (arith, p .start-within);
+      spacing-most = p .sized .spacing-most;
+      count-most = p .sized .count-most;
+    }
+
+pub passes-small : (g : Geometry) → GeometryPasses g → SmallGeometry g
+passes-small g p =
+    record {
+      latitude = small-axis latitudeLimit (g .latitude) (omega arith) (p .latitude);
+      longitude = small-axis longitudeLimit (g .longitude) (omega arith) (p .longitude);
+    }
+
+none-axis : SmallAxis noAxis
+none-axis = record { start-within = omega arith; spacing-most = omega arith; count-most = omega arith }
+
+pub none-small : SmallGeometry noGeometry
+none-small = record { latitude = none-axis; longitude = none-axis }
+
+pub both-handed-back : (o : Outcome FileGrids) → ((g : FileGrids) → o ≡ values g → SmallGeometry (g .coarse) × SmallGeometry (g .dense))
+    → BothHandedBack o
+both-handed-back (values g) h = h g refl
+both-handed-back (number n) h = tt
 
 -- Tests of both axes may be put otherwise where the questions after them decide. Tests before one that fails do not count.
 none : (a c : Bool) → (a && (c && false)) ≡ false

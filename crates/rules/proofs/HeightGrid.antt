@@ -21,15 +21,15 @@ use Rattle.rules.specs.Check.{slopePasses, question12, findingsOf, check
 use Rattle.rules.specs.Figures.{word, i32Bytes, at}
 
 -- What f gives for 0, 1, … n − 1 in turn, and by row and column.
-abbrev inTurn : ℕ → (ℕ → List ℕ) → List ℕ
+abbrev pub inTurn : ℕ → (ℕ → List ℕ) → List ℕ
 inTurn zero f = []
 inTurn (suc n) f = inTurn n f ++ f n
 
-abbrev nodes : (rows columns : ℕ) → (ℕ → ℕ → List ℕ) → List ℕ
+abbrev pub nodes : (rows columns : ℕ) → (ℕ → ℕ → List ℕ) → List ℕ
 nodes rows columns f = inTurn rows (λ row. inTurn columns (f row))
 
 -- A grid with one spacing both ways whose south-west corner lies `offset` nd north and east of G's.
-abbrev geometryBytes : (offset spacing rows columns : ℕ) → List ℕ
+abbrev pub geometryBytes : (offset spacing rows columns : ℕ) → List ℕ
 geometryBytes offset spacing rows columns =
     long (52000000000 + offset) ++ long (5000000000 + offset) ++ word spacing ++ word spacing ++ word rows ++ word columns
   where
@@ -81,7 +81,7 @@ badHeight b = set b 95 1
 abbrev changed : (place value place′ value′ : ℕ) → Outcome Layout
 changed place value place′ value′ = opening (set (set halfSpacing place value) place′ value′)
 
-abbrev findings : (a b c d e f : ℕ) → Findings
+abbrev pub findings : (a b c d e f : ℕ) → Findings
 findings a b c d e f =
     record {
       latitude = record { northward = a; eastward = b };
@@ -118,7 +118,7 @@ pub record HeightGrid : Type 0 where
 pub record HeightGridOrder : Type 0 where
   -- 79 bytes of another kind, which stands at byte 244; that kind, and one correction row (196); an edition (248) that is not known
   pub length-before-kind : opening (drop 173 (set halfSpacing 244 1)) ≡ number 1
-  pub kind-before-counts : changed 244 1 196 1 ≡ number 2
+  pub kind-before-counts : changed 244 2 196 1 ≡ number 2
   pub edition-known : changed 248 3 248 3 ≡ number 2
   -- each question is put to both grids before the next one is: rows at 196 and 228, two bytes of the latitude
   -- spacing at 188 and 220, the highest byte of the southern bound at 179 and 211, the backs at 236 and 240

@@ -1,5 +1,5 @@
 -- Laws of `every` and `largest`: every one means each, and the largest bounds each.
-use mathlib.Core.Bool.{Bool, true, false}
+use mathlib.Core.Bool.{Bool, true, false, _&&_}
 use mathlib.Core.Logic.{_⊎_, ⊎-elim}
 use mathlib.Core.Path.{_≡_, refl, sym, _∙_}
 use Prim.Native.Nat.{ℕ, zero, suc, _+_, _-_, _≤_, _<_}
@@ -30,6 +30,18 @@ every-missed n t i l e = by (every n t) refl
     by : (b : Bool) → every n t ≡ b → b ≡ false
     by true h = sym (every-at n t h i l) ∙ e
     by false h = refl
+
+-- Two tests of each are each test of every one.
+pub every-both : (n : ℕ) (s t : ℕ → Bool) → every n (λ i. s i && t i) ≡ (every n s && every n t)
+unfolding every
+every-both zero s t = refl
+every-both (suc n) s t = rw (every-both n s t) (exchanged (every n s) (every n t) (s n) (t n))
+  where
+    exchanged : (a b c d : Bool) → ((a && b) && (c && d)) ≡ ((a && c) && (b && d))
+    exchanged true true c d = refl
+    exchanged true false true d = refl
+    exchanged true false false d = refl
+    exchanged false b c d = refl
 
 -- ---- largest
 pub largest-at : (n : ℕ) (f : ℕ → ℕ) (i : ℕ) → i < n → f i ≤ largest n f

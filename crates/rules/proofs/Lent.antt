@@ -1,10 +1,20 @@
--- A list whose part was lent and written.
+-- A list whose part was lent, to be read or to be written.
 use mathlib.Core.List.{List, _++_, append-assoc, append-nil}
 use mathlib.Core.Path.{_≡_, sym}
 use Prim.Native.Nat.{ℕ, _+_, _-_, _≤_}
 use native.Mathlib.Omega.{arith}
-use lib.ListN.{length, take, drop, length-append}
-use lib.Seq.{take-at, length-take-le, take-append-seam, drop-append-seam, take-length, drop-length, drop-drop}
+use lib.ListN.{length, take, drop, length-append, length-drop}
+use lib.Seq.{take-all, take-at, length-take-le, take-append-seam, drop-append-seam, take-length, drop-length, drop-drop}
+
+-- The part of a list from n on, as a range leaves it; its length is what is left of the list.
+abbrev pub partFrom : {A : Type 0} → List A → ℕ → List A
+partFrom l n = take (length l - n) (drop n l)
+
+pub part-from : {A : Type 0} (l : List A) (n : ℕ) → partFrom l n ≡ drop n l
+part-from l n = take-all (length l - n) (drop n l) (omega (arith, length-drop n l))
+
+pub part-length : {A : Type 0} (l : List A) (n : ℕ) → length (partFrom l n) ≡ length l - n
+part-length l n = rw (part-from l n) (length-drop n l)
 
 -- The front of a list whose part from n on was lent, and has v at its own front since.
 pub front : {A : Type 0} (l v rest post : List A) (n : ℕ) → n ≤ length l

@@ -1,11 +1,13 @@
 -- Laws about the rules, for the crates above.
 pub mod Examples
 pub mod HeightGrid
+pub mod DenseGrid
 pub mod VdatumFile
 pub mod Ntv2File
 pub mod Answers
 pub mod Opening
 pub mod Cells
+pub mod Nesting
 pub mod Limits
 pub mod Largest
 pub mod Slopes

@@ -1,7 +1,7 @@
--- What questions 1 to 6 establish, in both editions: each question before the layout was answered yes.
-use mathlib.Core.Bool.{true, false}
+-- What questions 1 to 6, and 20, establish in both editions: each question before the layout was answered yes.
+use mathlib.Core.Bool.{true, false, false≢true}
 use mathlib.Core.List.{List}
-use mathlib.Core.Path.{_≡_, refl, ap, subst, _∙_}
+use mathlib.Core.Path.{_≡_, refl, sym, ap, subst, _∙_}
 use Prim.Native.Nat.{ℕ, _+_, _-_, _*_, _≤_}
 use native.Mathlib.Nat.{mul-le-mul, mul-le-mul-left, mul-le-mul-right}
 use native.Mathlib.Omega.{arith}
@@ -12,16 +12,19 @@ use Rattle.integers.specs.Booleans.{and-left, and-right, branched}
 use Rattle.rules.specs.declared.Axis.{Axis}
 use Rattle.rules.specs.declared.Geometry.{Geometry}
 use Rattle.rules.specs.declared.Trailer.{Trailer}
+use Rattle.rules.specs.declared.GridTrailer.{GridTrailer}
 use Rattle.rules.specs.declared.TwoGridTrailer.{TwoGridTrailer}
 use Rattle.rules.specs.declared.Plane.{Plane}
 use Rattle.rules.specs.declared.Layout.{Layout}
 use Rattle.rules.specs.Units.{latitudeLimit, countMost, spacingMost, between, within}
 use Rattle.rules.specs.Answers.{values}
-use Rattle.rules.specs.Image.{trailerOf, editionOf, twoGridTrailerOf, farBound, rows, columns}
-use Rattle.rules.specs.Image.{backOf, heightBackOf, correctionBackOf, layoutOf, twoGridLayoutOf, layoutFor}
+use Rattle.rules.specs.Image.{trailerOf, editionOf, twoGridTrailerOf, isNested, denseTrailerOf, farBound, rows, columns}
+use Rattle.rules.specs.Image.{backOf, heightBackOf, correctionBackOf, denseBackOf, layoutOf, twoGridLayoutOf, nestedLayoutOf}
+use Rattle.rules.specs.Dense.{question20}
 use Rattle.rules.proofs.Answers.{asked}
 use Rattle.rules.specs.Questions.{question1, question2, question3, question4, boundsWithin, question5, backPasses, question6, judge}
 use Rattle.rules.specs.Questions.{lengthOfTwo, kindKnown, ofBoth, backsPass, judgeTwo, openingTwo, opening}
+use Rattle.rules.specs.Questions.{lengthOfNested, ofAll, allBacksPass, judgeNested, openingNested}
 use Rattle.rules.specs.Limits.{Sized, AxisPasses, GeometryPasses, InImage, Open}
 
 between-low : (low high n : ℕ) → between low high n ≡ true → low ≤ n
@@ -105,8 +108,11 @@ laid size g passes h =
       latitude = at-nodes size first 12 g passes nodes (omega arith);
       longitude = in-nodes size first 4 12 g passes nodes (omega arith);
       height = in-nodes size first 8 12 g passes nodes (omega arith);
+      dense = at-nodes size first 12 g passes nodes (omega arith);
+      dense-longitude = in-nodes size first 4 12 g passes nodes (omega arith);
       longitude-geometry = refl;
       height-geometry = λ one. refl;
+      nests = λ k. absurd (false≢true k);
     }
 
 laid-two : (size : ℕ) (c h : Geometry) → GeometryPasses c → GeometryPasses h → correctionBackOf c h ≤ size
@@ -119,8 +125,28 @@ laid-two size c h c-passes h-passes l =
       latitude = at-nodes size first 8 c c-passes nodes (omega arith);
       longitude = in-nodes size first 4 8 c c-passes nodes (omega arith);
       height = at-nodes size (size - heightBackOf h) 4 h h-passes heights (omega arith);
+      dense = at-nodes size first 8 c c-passes nodes (omega arith);
+      dense-longitude = in-nodes size first 4 8 c c-passes nodes (omega arith);
       longitude-geometry = refl;
-      height-geometry = λ one. let z : _≡_ {A = ℕ} 0 1 = cc in absurd (omega arith);
+      height-geometry = λ one. absurd (false≢true (sym one));
+      nests = λ k. absurd (false≢true k);
+    }
+
+laid-nested : (size : ℕ) (d c h : Geometry) → GeometryPasses d → GeometryPasses c → GeometryPasses h → denseBackOf d c h ≤ size
+    → question20 c d ≡ true → Open size (nestedLayoutOf size d c h)
+laid-nested size d c h d-passes c-passes h-passes l aligned =
+    let two = laid-two size c h c-passes h-passes (omega arith) in
+    let first = size - denseBackOf d c h in
+    let nodes : first + 8 * (rows d * columns d) ≤ size = omega arith in
+    record {
+      latitude = two .latitude;
+      longitude = two .longitude;
+      height = two .height;
+      dense = at-nodes size first 8 d d-passes nodes (omega arith);
+      dense-longitude = in-nodes size first 4 8 d d-passes nodes (omega arith);
+      longitude-geometry = refl;
+      height-geometry = two .height-geometry;
+      nests = λ k. record { separate = refl; beside = refl; aligned = aligned };
     }
 
 -- What question 6 says of back.
@@ -139,6 +165,13 @@ unfolding backsPass
 backs-are t size h =
     let first = backPasses (t .corrections .back) (correctionBackOf (t .corrections .geometry) (t .heights .geometry)) size in
     (back-is _ _ size (and-left first _ h), back-is _ _ size (and-right first _ h))
+
+-- And in kind 1 of all three.
+pub all-backs-are : (d : GridTrailer) (t : TwoGridTrailer) (size : ℕ) → allBacksPass d t size ≡ true
+    → (backsPass t size ≡ true)
+    × ((d .back ≡ denseBackOf (d .geometry) (t .corrections .geometry) (t .heights .geometry)) × (d .back ≤ size))
+unfolding allBacksPass
+all-backs-are d t size h = (and-left (backsPass t size) _ h, back-is _ _ size (and-right (backsPass t size) _ h))
 
 -- An edition 1 image that opens: its layout, and question 6 answered yes.
 pub record OpenedOne (t : Trailer) (size : ℕ) (l : Layout) : Type 0 where
@@ -160,13 +193,24 @@ judged t size l h =
     record { is-open = subst (Open size) e o; layout = e; bytes = h6 .0 }
 
 -- What questions 3 to 5 establish of both grids.
-pub both-pass : (t : TwoGridTrailer) → ofBoth question3 t ≡ true → ofBoth question4 t ≡ true → ofBoth question5 t ≡ true
+both-pass : (t : TwoGridTrailer) → ofBoth question3 t ≡ true → ofBoth question4 t ≡ true → ofBoth question5 t ≡ true
     → GeometryPasses (t .corrections .geometry) × GeometryPasses (t .heights .geometry)
 both-pass t h3 h4 h5 =
     let c = t .corrections .geometry in
     let h = t .heights .geometry in (
       geometry-passes c (and-left (question3 c) _ h3) (and-left (question4 c) _ h4) (and-left (question5 c) _ h5),
       geometry-passes h (and-right (question3 c) _ h3) (and-right (question4 c) _ h4) (and-right (question5 c) _ h5),
+    )
+
+-- And in kind 1 of all three.
+pub all-pass : (d : GridTrailer) (t : TwoGridTrailer) → ofAll question3 d t ≡ true → ofAll question4 d t ≡ true → ofAll question5 d t ≡ true
+    → (GeometryPasses (t .corrections .geometry) × GeometryPasses (t .heights .geometry)) × GeometryPasses (d .geometry)
+all-pass d t h3 h4 h5 =
+    let b3 = ofBoth question3 t in
+    let b4 = ofBoth question4 t in
+    let b5 = ofBoth question5 t in (
+      both-pass t (and-left b3 _ h3) (and-left b4 _ h4) (and-left b5 _ h5),
+      geometry-passes (d .geometry) (and-right b3 _ h3) (and-right b4 _ h4) (and-right b5 _ h5),
     )
 
 -- An edition 2 image that opens.
@@ -190,32 +234,76 @@ judged-two t size l k =
     let o = laid-two size c h (both .0) (both .1) (omega (arith, backs-are t size (h6 .0) .0)) in
     record { is-open = subst (Open size) e o; layout = e; bytes = h6 .0 }
 
+-- A kind 1 image that opens.
+pub record OpenedNested (d : GridTrailer) (t : TwoGridTrailer) (size : ℕ) (l : Layout) : Type 0 where
+  pub is-open : Open size l
+  pub layout : nestedLayoutOf size (d .geometry) (t .corrections .geometry) (t .heights .geometry) ≡ l
+  pub enough : 36 + t .corrections .back ≤ size
+  pub bytes : allBacksPass d t size ≡ true
+
+judged-nested : (d : GridTrailer) (t : TwoGridTrailer) (size : ℕ) (l : Layout)
+    → 36 + t .corrections .back ≤ size → judgeNested d t size ≡ values l → OpenedNested d t size l
+unfolding judgeNested
+judged-nested d t size l enough k =
+    let c = t .corrections .geometry in
+    let h = t .heights .geometry in
+    let h3 = asked (ofAll question3 d t) 3 _ l k in
+    let h4 = asked (ofAll question4 d t) 4 _ l (h3 .1) in
+    let h5 = asked (ofAll question5 d t) 5 _ l (h4 .1) in
+    let h6 = asked (allBacksPass d t size) 6 _ l (h5 .1) in
+    let h20 = asked (question20 c (d .geometry)) 20 _ l (h6 .1) in
+    let e : nestedLayoutOf size (d .geometry) c h ≡ l = cc in
+    let all = all-pass d t (h3 .0) (h4 .0) (h5 .0) in
+    let back : denseBackOf (d .geometry) c h ≤ size = omega (arith, all-backs-are d t size (h6 .0) .1) in
+    let o = laid-nested size (d .geometry) c h (all .1) (all .0 .0) (all .0 .1) back (h20 .0) in
+    record { is-open = subst (Open size) e o; layout = e; enough = enough; bytes = h6 .0 }
+
+-- Edition 2: an image that opens is of kind 0 or of kind 1.
+by-kind : {G : Type 0} (b : List ℕ) (l : Layout) → openingTwo b ≡ values l
+    → (80 ≤ length b → isNested (twoGridTrailerOf b) ≡ false → OpenedTwo (twoGridTrailerOf b) (length b) l → G)
+    → (80 ≤ length b → isNested (twoGridTrailerOf b) ≡ true → OpenedNested (denseTrailerOf b) (twoGridTrailerOf b) (length b) l → G) → G
+unfolding openingTwo openingNested
+by-kind b l h two nested =
+    let t = twoGridTrailerOf b in
+    let k = asked (lengthOfTwo (length b)) 1 _ l h in
+    let long = leb-true 80 (length b) (k .0) in
+    branched (isNested t) _ _ _ (k .1)
+    (λ one e.
+    let m = asked (lengthOfNested t (length b)) 1 _ l e in
+    nested long one (judged-nested (denseTrailerOf b) t (length b) l (leb-true _ (length b) (m .0)) (m .1)))
+    (λ none e. two long none (judged-two t (length b) l e))
+
 -- An image that opens is of edition 1 or of edition 2; by its layout's flag it is known which.
 by-edition : {G : Type 0} (b : List ℕ) (l : Layout) → opening b ≡ values l
-    → (40 ≤ length b → OpenedOne (trailerOf b) (length b) l → G) → (80 ≤ length b → OpenedTwo (twoGridTrailerOf b) (length b) l → G) → G
-unfolding opening openingTwo
+    → (40 ≤ length b → OpenedOne (trailerOf b) (length b) l → G) → (openingTwo b ≡ values l → G) → G
+unfolding opening
 by-edition b l h one two =
     let k = asked (question1 (length b)) 1 _ l h in
     branched (eqb (editionOf b) 2) _ _ _ (k .1)
-    (λ second e.
-    let t = asked (lengthOfTwo (length b)) 1 _ l e in
-    two (leb-true 80 (length b) (t .0)) (judged-two (twoGridTrailerOf b) (length b) l (t .1)))
-    (λ first e. one (leb-true 40 (length b) (k .0)) (judged (trailerOf b) (length b) l e))
+    (λ second e. two e) (λ first e. one (leb-true 40 (length b) (k .0)) (judged (trailerOf b) (length b) l e))
 
 pub opened : (b : List ℕ) (l : Layout) → opening b ≡ values l → Open (length b) l
-opened b l h = by-edition b l h (λ _ o. o .is-open) (λ _ o. o .is-open)
+opened b l h = by-edition b l h (λ _ o. o .is-open) (λ e. by-kind b l e (λ _ _ o. o .is-open) (λ _ _ o. o .is-open))
 
--- What the functions that read the layout ask of an image that opened.
+-- What the functions that read the layout ask of an image that opened, of each edition and kind.
 pub opened-one : (b : List ℕ) (l : Layout) → opening b ≡ values l → l .separate ≡ false
     → (40 ≤ length b) × (question6 (trailerOf b) (length b) ≡ true)
 opened-one b l h e =
-    by-edition b l h (λ enough o. (enough, o .bytes)) (λ _ o.
-    let f : true ≡ false = ap (λ (l : Layout). l .separate) (o .layout) ∙ e in
-    let z : _≡_ {A = ℕ} 0 1 = cc in absurd (omega arith))
+    by-edition b l h (λ enough o. (enough, o .bytes)) (λ k.
+    let second : true ≡ l .separate =
+    by-kind b l k (λ _ _ o. ap (λ (l : Layout). l .separate) (o .layout)) (λ _ _ o. ap (λ (l : Layout). l .separate) (o .layout)) in
+    absurd (false≢true (sym (second ∙ e))))
 
-pub opened-two : (b : List ℕ) (l : Layout) → opening b ≡ values l → l .separate ≡ true
-    → (80 ≤ length b) × (backsPass (twoGridTrailerOf b) (length b) ≡ true)
-opened-two b l h e =
-    by-edition b l h (λ _ o.
-    let f : false ≡ true = ap (λ (l : Layout). l .separate) (o .layout) ∙ e in
-    let z : _≡_ {A = ℕ} 0 1 = cc in absurd (omega arith)) (λ enough o. (enough, o .bytes))
+module _ (b : List ℕ) (l : Layout) (h : opening b ≡ values l) (e : l .separate ≡ true) where
+  of-two : openingTwo b ≡ values l
+  of-two =
+      by-edition b l h (λ _ o. absurd (false≢true (ap (λ (l : Layout). l .separate) (o .layout) ∙ e))) (λ k. k)
+
+  pub opened-long : 80 ≤ length b
+  opened-long = by-kind b l of-two (λ long _ _. long) (λ long _ _. long)
+
+  pub opened-two : isNested (twoGridTrailerOf b) ≡ false → backsPass (twoGridTrailerOf b) (length b) ≡ true
+  opened-two none = by-kind b l of-two (λ _ _ o. o .bytes) (λ _ one _. absurd (false≢true (sym none ∙ one)))
+
+  pub opened-nested : isNested (twoGridTrailerOf b) ≡ true → OpenedNested (denseTrailerOf b) (twoGridTrailerOf b) (length b) l
+  opened-nested one = by-kind b l of-two (λ _ none _. absurd (false≢true (sym none ∙ one))) (λ _ _ o. o)

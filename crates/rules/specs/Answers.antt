@@ -1,6 +1,6 @@
 -- Document 01, "Questions in order": an answer is its values or a question's number alone. What an enum of the code says in these terms
 -- stands with the rule that it answers: openedOf (Questions), heightLookupOf (Lookup), answerOf (Ways), checkedOf (Check), readingOf and
--- writingOf (Notation), tripOf (Trip), fileAnswerOf (Files).
+-- writingOf (Notation), tripOf (Trip), fileAnswerOf and gridsAnswerOf (Files).
 use mathlib.Core.Bool.{Bool, true, false}
 use Prim.Native.Nat.{ℕ}
 use lib.IntN.{ℤ, pos}
@@ -8,7 +8,7 @@ use Rattle.rules.specs.declared.Refusal.{Refusal}
 use Rattle.rules.specs.declared.Refusal.the-variants.{ImageLength, Edition, NodeCount, Spacing, GridBounds, NodeBytes}
 use Rattle.rules.specs.declared.Refusal.the-variants.{FixLimits, OutsideBounds, NodeLimits, IterateOutside, NotSettled}
 use Rattle.rules.specs.declared.Refusal.the-variants.{Slope, BadNotation, ListLengths, OffHeightGrid}
-use Rattle.rules.specs.declared.Refusal.the-variants.{VdatumFile, VdatumHeight, Ntv2File, Ntv2Shift}
+use Rattle.rules.specs.declared.Refusal.the-variants.{VdatumFile, VdatumHeight, Ntv2File, Ntv2Shift, DenseAlignment, DenseBorder}
 
 -- Values, or the number of the question whose answer was no.
 pub data Outcome (A : Type 0) : Type 0 where
@@ -46,6 +46,8 @@ numberOf VdatumFile = 16
 numberOf VdatumHeight = 17
 numberOf Ntv2File = 18
 numberOf Ntv2Shift = 19
+numberOf DenseAlignment = 20
+numberOf DenseBorder = 21
 
 -- What a call gives: 0 with values, else the number.
 abbrev pub statusOf : {A : Type 0} → Outcome A → ℤ

@@ -75,3 +75,13 @@ valueAt g f p =
     bilinear (corners f (cellFor a (p .latitude)) (cellFor o (p .longitude)))
     (partFor a (p .latitude)) (partFor o (p .longitude))
     (a .spacing) (o .spacing)
+
+-- The sum at a point in the bounds: P × Q times the exact value there, before it is rounded.
+unfoldable pub exactSum : Geometry → (ℕ → ℕ → ℤ) → Point → ℤ
+exactSum g f p =
+    let a = g .latitude in
+    let o = g .longitude in
+    weighted (cornersFor g f p) (partFor a (p .latitude)) (partFor o (p .longitude)) (a .spacing) (o .spacing)
+
+abbrev pub area : Geometry → ℕ
+area g = g .latitude .spacing * g .longitude .spacing

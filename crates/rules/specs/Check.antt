@@ -1,9 +1,10 @@
--- Document 01, "Grid check": question 9 over all nodes, the largest steps between neighbours, question 12.
-use mathlib.Core.Bool.{Bool, true, _&&_}
+-- Document 01, "Grid check": question 9 over all nodes, the largest steps between neighbours, question 12; and note 5 of document 02: both
+-- of them with a dense grid, and question 21.
+use mathlib.Core.Bool.{Bool, true, cond, _&&_}
 use mathlib.Core.List.{List, [], _∷_}
 use Prim.Native.Nat.{ℕ, zero, suc, _+_, _-_, _*_, max}
 use lib.Dec.{leb}
-use lib.IntN.{ℤ, pos, natAbs, _-ℤ_}
+use lib.IntN.{ℤ, pos, natAbs, _-ℤ_, _*ℤ_}
 use Rattle.rules.specs.declared.Geometry.{Geometry}
 use Rattle.rules.specs.declared.Steps.{Steps}
 use Rattle.rules.specs.declared.Findings.{Findings}
@@ -12,6 +13,8 @@ use Rattle.rules.specs.declared.Checked.the-variants as checked
 use Rattle.rules.specs.Units.{within, correctionLimit, quasiGeoidLimit}
 use Rattle.rules.specs.Answers.{Outcome, values, number, ask, andThen, numberOf}
 use Rattle.rules.specs.Image.{Grid, gridOf, rows, columns}
+use Rattle.rules.specs.Bilinear.{exactSum, area}
+use Rattle.rules.specs.Dense.{nodePoint}
 use Rattle.rules.specs.Questions.{opening}
 
 -- Whether t holds of 0, 1, … n − 1.
@@ -69,9 +72,48 @@ findingsOf g =
       height = stepsOf (g .heights) (g .height);
     }
 
--- The check of a grid: question 9, question 12, then the findings.
+-- With a dense grid, question 9 of its nodes,
+unfoldable pub densePasses : Grid → Bool
+densePasses g = allWithin correctionLimit (g .dense) (g .denseLatitude) && allWithin correctionLimit (g .dense) (g .denseLongitude)
+
+-- question 12 of its two corrections, with its spacings,
+unfoldable pub denseSlopesPass : Grid → Bool
+denseSlopesPass g =
+    slopePasses (g .dense) (stepsOf (g .dense) (g .denseLatitude)) && slopePasses (g .dense) (stepsOf (g .dense) (g .denseLongitude))
+
+-- and 21: does each correction of each node on its border differ by at most 1 nd from the parent's exact value there? Both are taken times
+-- P × Q of the parent, so nothing is rounded; e are the parent's values, f the dense ones.
+unfoldable pub agrees : (coarse dense : Geometry) → (e f : ℕ → ℕ → ℤ) → (row column : ℕ) → Bool
+agrees c d e f row column = leb (natAbs (f row column *ℤ pos (area c) -ℤ exactSum c e (nodePoint d row column))) (area c)
+
+-- The border is the first and the last row, and the first and the last column; the corner nodes are in both.
+unfoldable pub rowsAgree : (coarse dense : Geometry) → (e f : ℕ → ℕ → ℤ) → Bool
+rowsAgree c d e f = every (columns d) (λ column. agrees c d e f 0 column && agrees c d e f (rows d - 1) column)
+
+unfoldable pub columnsAgree : (coarse dense : Geometry) → (e f : ℕ → ℕ → ℤ) → Bool
+columnsAgree c d e f = every (rows d) (λ row. agrees c d e f row 0 && agrees c d e f row (columns d - 1))
+
+unfoldable pub borderAgrees : (coarse dense : Geometry) → (e f : ℕ → ℕ → ℤ) → Bool
+borderAgrees c d e f = rowsAgree c d e f && columnsAgree c d e f
+
+unfoldable pub question21 : Grid → Bool
+question21 g =
+    borderAgrees (g .corrections) (g .dense) (g .latitude) (g .denseLatitude)
+    && borderAgrees (g .corrections) (g .dense) (g .longitude) (g .denseLongitude)
+
+-- A question that is put only where there is a dense grid.
+abbrev pub whereNested : Grid → Bool → Bool
+whereNested g answer = cond (g .nested) answer true
+
+-- The check of a grid: question 9 and question 12, each with the dense grid last, 21, then the findings, which are the coarse grid's.
 unfoldable pub check : Grid → Outcome Findings
-check g = ask (allPass g) 9 (ask (question12 g (findingsOf g)) 12 (values (findingsOf g)))
+check g =
+    ask (allPass g) 9
+    (ask (whereNested g (densePasses g)) 9
+    (ask (question12 g (findingsOf g)) 12
+    (ask (whereNested g (denseSlopesPass g)) 12
+    (ask (whereNested g (question21 g)) 21
+    (values (findingsOf g))))))
 
 -- The grid check of an image: questions 1 to 6 first.
 unfoldable pub gridCheck : List ℕ → Outcome Findings

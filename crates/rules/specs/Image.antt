@@ -1,14 +1,15 @@
--- Document 01, "Units and the image", and note 1 of document 02: little-endian numbers, the trailers of both editions, the geometry and its
--- bounds, where the values lie, the grid.
+-- Document 01, "Units and the image", and notes 1 and 5 of document 02: little-endian numbers, the trailers of both editions, the geometry
+-- and its bounds, where the values lie, the grid.
 use mathlib.Core.Bool.{Bool, true, false, cond}
 use mathlib.Core.List.{List}
 use Prim.Native.Nat.{ℕ, _+_, _-_, _*_}
-use lib.Dec.{ltb}
+use lib.Dec.{ltb, eqb}
 use lib.IntN.{ℤ, pos, _+ℤ_, _-ℤ_}
 use lib.ListN.{length, getD}
 use Rattle.rules.specs.declared.Axis.{Axis}
 use Rattle.rules.specs.declared.Geometry.{Geometry}
 use Rattle.rules.specs.declared.Trailer.{Trailer}
+use Rattle.rules.specs.declared.GridTrailer.{GridTrailer}
 use Rattle.rules.specs.declared.TwoGridTrailer.{TwoGridTrailer}
 use Rattle.rules.specs.declared.Plane.{Plane}
 use Rattle.rules.specs.declared.Layout.{Layout}
@@ -61,6 +62,16 @@ twoGridTrailerOf b =
       kind = u32At b (at + 72);
     }
 
+-- Kind 1 has a dense grid inside that of the corrections.
+abbrev pub isNested : TwoGridTrailer → Bool
+isNested t = eqb (t .kind) 1
+
+-- Its geometry and, at 32, back to its nodes stand in the 36 bytes directly before the correction nodes, by the trailer's back to these.
+unfoldable pub denseTrailerOf : List ℕ → GridTrailer
+denseTrailerOf b =
+    let at = length b - (36 + twoGridTrailerOf b .corrections .back) in
+    record { geometry = geometryAt b at; back = u32At b (at + 32) }
+
 -- The far bound of an axis, the northern or the eastern one: its start plus (count − 1) spacings.
 abbrev pub farBound : Axis → ℤ
 farBound a = a .start +ℤ pos ((a .count - 1) * a .spacing)
@@ -94,6 +105,10 @@ heightBackOf h = 4 * rows h * columns h + 80
 abbrev pub correctionBackOf : (corrections heights : Geometry) → ℕ
 correctionBackOf c h = 8 * rows c * columns c + heightBackOf h
 
+-- Kind 1: dense nodes of 8 bytes, then the 36 bytes, before the correction nodes.
+abbrev pub denseBackOf : (dense corrections heights : Geometry) → ℕ
+denseBackOf d c h = 8 * rows d * columns d + 36 + correctionBackOf c h
+
 -- Edition 1's layout, of an image of `size` bytes: a node is latitude correction, longitude correction and quasi-geoid height, of four
 -- bytes each, and the last node ends where the trailer begins.
 abbrev pub layoutOf : (size : ℕ) → Geometry → Layout
@@ -101,9 +116,11 @@ layoutOf size g =
     let first = size - backOf g in
     record {
       separate = false;
+      nested = false;
       latitude = record { geometry = g; first = first; stride = 12 };
       longitude = record { geometry = g; first = first + 4; stride = 12 };
       height = record { geometry = g; first = first + 8; stride = 12 };
+      dense = record { geometry = g; first = first; stride = 12 };
     }
 
 -- Edition 2's: a correction node is latitude correction and longitude correction, a height node the height; correction nodes, height nodes
@@ -113,15 +130,38 @@ twoGridLayoutOf size c h =
     let first = size - correctionBackOf c h in
     record {
       separate = true;
+      nested = false;
       latitude = record { geometry = c; first = first; stride = 8 };
       longitude = record { geometry = c; first = first + 4; stride = 8 };
       height = record { geometry = h; first = size - heightBackOf h; stride = 4 };
+      dense = record { geometry = c; first = first; stride = 8 };
+    }
+
+-- Kind 1's: the same, with a dense grid whose nodes are correction nodes.
+abbrev pub nestedLayoutOf : (size : ℕ) → (dense corrections heights : Geometry) → Layout
+nestedLayoutOf size d c h =
+    let l = twoGridLayoutOf size c h in
+    record {
+      separate = true;
+      nested = true;
+      latitude = l .latitude;
+      longitude = l .longitude;
+      height = l .height;
+      dense = record { geometry = d; first = size - denseBackOf d c h; stride = 8 };
     }
 
 -- The layout that an opened image has by its trailer, where its heights stand on a separate grid and where they do not.
 abbrev pub layoutFor : List ℕ → (separate : Bool) → Layout
-layoutFor b true = let t = twoGridTrailerOf b in twoGridLayoutOf (length b) (t .corrections .geometry) (t .heights .geometry)
+layoutFor b true =
+    let t = twoGridTrailerOf b in
+    let c = t .corrections .geometry in
+    let h = t .heights .geometry in
+    cond (isNested t) (nestedLayoutOf (length b) (denseTrailerOf b .geometry) c h) (twoGridLayoutOf (length b) c h)
 layoutFor b false = layoutOf (length b) (trailerOf b .geometry)
+
+-- The plane of longitude corrections whose nodes begin with the latitude corrections of a plane.
+abbrev pub besideOf : Plane → Plane
+besideOf p = record { geometry = p .geometry; first = p .first + 4; stride = p .stride }
 
 -- The values of a plane, by row and column.
 unfoldable pub plane : List ℕ → Plane → ℕ → ℕ → ℤ
@@ -129,23 +169,32 @@ plane b p row column = i32At b (p .first + p .stride * (row * columns (p .geomet
 
 -- A grid, the content of an image: the geometry of the corrections and that of the quasi-geoid heights, and by row and column the latitude
 -- correction, the longitude correction and the height. Row 0 is the southern one, column 0 the western. In edition 1 both geometries are
--- the trailer's one; in edition 2 the heights stand on a separate grid.
+-- the trailer's one; in edition 2 the heights stand on a separate grid. Where a dense grid is nested in that of the corrections, its
+-- geometry and its corrections.
 pub record Grid : Type 0 where
   pub separate : Bool
+  pub nested : Bool
   pub corrections : Geometry
   pub heights : Geometry
+  pub dense : Geometry
   pub latitude : ℕ → ℕ → ℤ
   pub longitude : ℕ → ℕ → ℤ
   pub height : ℕ → ℕ → ℤ
+  pub denseLatitude : ℕ → ℕ → ℤ
+  pub denseLongitude : ℕ → ℕ → ℤ
 
 -- The grid that an image has in a layout.
 abbrev pub gridOf : List ℕ → Layout → Grid
 gridOf b l =
     record {
       separate = l .separate;
+      nested = l .nested;
       corrections = l .latitude .geometry;
       heights = l .height .geometry;
+      dense = l .dense .geometry;
       latitude = plane b (l .latitude);
       longitude = plane b (l .longitude);
       height = plane b (l .height);
+      denseLatitude = plane b (l .dense);
+      denseLongitude = plane b (besideOf (l .dense));
     }

@@ -34,11 +34,12 @@
 pub mod Units
 pub mod Answers
 pub mod Image
-pub mod Questions
-pub mod Limits
 pub mod Bilinear
 pub mod SixCases
 pub mod Lookup
+pub mod Dense
+pub mod Questions
+pub mod Limits
 pub mod Ways
 pub mod Check
 pub mod Lists

@@ -1,6 +1,6 @@
 -- Document 01, "Questions in order": the bounds of questions 8 and 10, question 9, and the lookups of the values at a point in the bounds;
--- and note 1 of document 02: question 15, and the lookups on two grids.
-use mathlib.Core.Bool.{Bool, _&&_}
+-- and notes 1 and 5 of document 02: question 15, the lookups on two grids, and which of two grids a point's corrections are taken from.
+use mathlib.Core.Bool.{Bool, true, false, cond, _&&_}
 use Prim.Native.Nat.{ℕ}
 use lib.IntN.{ℤ}
 use lib.Signed.{leZ}
@@ -65,6 +65,26 @@ heightsPass g p = squarePasses quasiGeoidLimit (cornersFor (g .heights) (g .heig
 -- The lookup on the correction grid.
 unfoldable pub correctionGridLookup : Grid → Point → Outcome Correction
 correctionGridLookup g p = ask (correctionsPass g p) 9 (values (correctionsAt g p))
+
+-- Kind 1: the grid with the dense corrections in place of the coarse ones,
+abbrev pub denseGrid : Grid → Grid
+denseGrid g =
+    record {
+      separate = true;
+      nested = false;
+      corrections = g .dense;
+      heights = g .heights;
+      dense = g .dense;
+      latitude = g .denseLatitude;
+      longitude = g .denseLongitude;
+      height = g .height;
+      denseLatitude = g .denseLatitude;
+      denseLongitude = g .denseLongitude;
+    }
+
+-- and the one that a point's corrections are taken from: the dense one in the dense bounds, all four included, else the coarse one.
+abbrev pub gridFor : Grid → Point → Grid
+gridFor g p = cond (g .nested && inside (g .dense) p) (denseGrid g) g
 
 -- 15. Is the Bessel point on the height grid, its bounds included? Then question 9, then the height.
 unfoldable pub heightGridLookup : Grid → Point → Outcome ℤ

@@ -1,16 +1,17 @@
--- Document 02, note 4: an NTv2 .gsb file with one grid, its records and labels, the values that are read, refusals 18 and 19, and what its
--- conversion hands back and leaves in the lent buffer.
-use mathlib.Core.Bool.{Bool, _&&_}
+-- Document 02, notes 4 and 5: an NTv2 .gsb file with one grid, or with one subgrid after its parent; its records and labels, the values
+-- that are read, refusals 18 and 19, and what its conversion hands back and leaves in the two lent buffers.
+use mathlib.Core.Bool.{Bool, cond, _&&_}
 use mathlib.Core.List.{List, [], _∷_, _++_}
 use Prim.Native.Nat.{ℕ, _+_, _-_, _*_, _/_, _%_}
 use Prim.Native.Char.{code}
 use Prim.Native.String.{String}
 use Prim.Native.String as text
 use lib.Dec.{leb, eqb}
-use lib.IntN.{ℤ, negℤ, _-ℤ_}
-use lib.ListN.{length, getD}
+use lib.IntN.{ℤ, pos, negℤ, _-ℤ_}
+use lib.ListN.{length, drop, getD}
 use Rattle.rules.specs.declared.Axis.{Axis}
 use Rattle.rules.specs.declared.Geometry.{Geometry}
+use Rattle.rules.specs.declared.FileGrids.{FileGrids}
 use Rattle.rules.specs.declared.Scale.{Scale}
 use Rattle.rules.specs.Units.{within, correctionLimit}
 use Rattle.rules.specs.Answers.{Outcome, values, ask, andThen, after}
@@ -21,8 +22,8 @@ use Rattle.rules.specs.Floats.{binary32, binary64, finite, Fraction, val
 use Rattle.rules.specs.Vdatum.{bigU64At}
 use Rattle.rules.specs.Files.{natural, bytesOf, inSequence}
 
--- The file is the overview of eleven records, the grid's header of eleven, the nodes and the record END, of 16 bytes each. A record is a
--- label and a value of 8 bytes each. Numbers are little-endian; a count is an i32 and four bytes that are not read.
+-- The file is the overview of eleven records, then of each grid its header of eleven and its nodes, and last the record END, of 16 bytes
+-- each. A record is a label and a value of 8 bytes each. Numbers are little-endian; a count is an i32 and four bytes that are not read.
 abbrev pub countAt : List ℕ → (at : ℕ) → ℕ
 countAt b at = natural (i32At b at)
 
@@ -38,7 +39,7 @@ spelledAfter n (text._∷_ letter rest) = spelledAfter (256 * n + code letter) r
 abbrev pub spelled : String → ℕ
 spelled = spelledAfter 0
 
--- The labels of the overview, then those of the grid's header.
+-- The labels of the overview, then those of a grid's header.
 abbrev pub labels : List ℕ
 labels =
     spelled "NUM_OREC" ∷ spelled "NUM_SREC" ∷ spelled "NUM_FILE"
@@ -55,15 +56,26 @@ endLabel = spelled "END     "
 abbrev pub secondsText : ℕ
 secondsText = spelled "SECONDS "
 
--- Have the eleven records from byte `at` on the labels from place `first` on?
-unfoldable pub labelled : List ℕ → (at first : ℕ) → Bool
-labelled b at first = every 11 (λ n. eqb (textAt b (at + 16 * n)) (getD labels (first + n) 0))
+abbrev pub noneText : ℕ
+noneText = spelled "NONE    "
 
--- The overview, from byte 0: its labels, eleven records here and in the header (NUM_OREC, NUM_SREC), one grid (NUM_FILE), and values in
--- arcseconds (GS_TYPE).
+-- Have the first eleven records the labels from place `first` on?
+unfoldable pub labelled : List ℕ → (first : ℕ) → Bool
+labelled b first = every 11 (λ n. eqb (textAt b (16 * n)) (getD labels (first + n) 0))
+
+-- The overview, from byte 0: its labels, eleven records here and in a header (NUM_OREC, NUM_SREC), values in arcseconds (GS_TYPE), and one
+-- grid or two (NUM_FILE).
+abbrev pub gridCount : List ℕ → ℕ
+gridCount b = countAt b 40
+
 unfoldable pub overviewPasses : List ℕ → Bool
 overviewPasses b =
-    labelled b 0 0 && (eqb (countAt b 8) 11 && (eqb (countAt b 24) 11 && (eqb (countAt b 40) 1 && eqb (textAt b 56) secondsText)))
+    leb 176 (length b)
+    && (labelled b 0
+    && (eqb (countAt b 8) 11
+    && (eqb (countAt b 24) 11
+    && (eqb (textAt b 56) secondsText
+    && (leb 1 (gridCount b) && leb (gridCount b) 2)))))
 
 -- nd from arcseconds: 10^9 / 3,600. And the nearest nd to a value in arcseconds.
 abbrev pub fromArcseconds : Scale
@@ -82,16 +94,22 @@ pub record Extent : Type 0 where
   pub end : Fraction
   pub spacing : Fraction
 
--- Of the header at byte 176 the values of S_LAT at 248, N_LAT at 264, E_LONG at 280, W_LONG at 296, LAT_INC at 312 and LONG_INC at 328, all
--- f64, and of GS_COUNT at 344.
+-- A grid is given as `g`, the file's bytes from its header on. In it stand the values of SUB_NAME at 8, PARENT at 24, S_LAT at 72, N_LAT
+-- at 88, E_LONG at 104, W_LONG at 120, LAT_INC at 136 and LONG_INC at 152, the last six f64, of GS_COUNT at 168, and the nodes from 176 on.
+abbrev pub nameOf : List ℕ → ℕ
+nameOf g = textAt g 8
+
+abbrev pub parentOf : List ℕ → ℕ
+parentOf g = textAt g 24
+
 abbrev pub f64At : List ℕ → (at : ℕ) → Fraction
 f64At b at = valueOf binary64 (u64At b at)
 
 abbrev pub latitudeExtent : List ℕ → Extent
-latitudeExtent b = record { start = f64At b 248; end = f64At b 264; spacing = f64At b 312 }
+latitudeExtent g = record { start = f64At g 72; end = f64At g 88; spacing = f64At g 136 }
 
 abbrev pub longitudeExtent : List ℕ → Extent
-longitudeExtent b = record { start = turned (f64At b 296); end = turned (f64At b 280); spacing = f64At b 328 }
+longitudeExtent g = record { start = turned (f64At g 120); end = turned (f64At g 104); spacing = f64At g 152 }
 
 -- The axis: all three are rounded, and the difference of the rounded bounds gives the count.
 abbrev pub spacingOf : Extent → ℕ
@@ -104,7 +122,7 @@ abbrev pub axisOf : Extent → Axis
 axisOf e = record { start = arcseconds (e .start); spacing = spacingOf e; count = differenceOf e / spacingOf e + 1 }
 
 abbrev pub gridHeaderOf : List ℕ → Geometry
-gridHeaderOf b = record { latitude = axisOf (latitudeExtent b); longitude = axisOf (longitudeExtent b) }
+gridHeaderOf g = record { latitude = axisOf (latitudeExtent g); longitude = axisOf (longitudeExtent g) }
 
 -- Is the difference a whole number of spacings? And are the three numbers of an axis, each at its byte, finite too?
 abbrev pub whole : Extent → Bool
@@ -114,71 +132,125 @@ abbrev pub threeFinite : List ℕ → (start end spacing : ℕ) → Bool
 threeFinite b start end spacing =
     finite binary64 (u64At b start) && (finite binary64 (u64At b end) && finite binary64 (u64At b spacing))
 
--- The grid's header: its labels, and a geometry that is finite, whole, within questions 3 to 5 and of GS_COUNT nodes.
+-- The header: its labels, and a geometry that is finite, whole, within questions 3 to 5 and of GS_COUNT nodes.
 abbrev pub nodeCount : Geometry → ℕ
 nodeCount g = rows g * columns g
 
 unfoldable pub headerPasses : List ℕ → Bool
-headerPasses b =
-    let g = gridHeaderOf b in
-    labelled b 176 11
-    && ((threeFinite b 248 264 312 && whole (latitudeExtent b))
-    && ((threeFinite b 296 280 328 && whole (longitudeExtent b))
-    && (questions3To5 g && eqb (countAt b 344) (nodeCount g))))
+headerPasses g =
+    let geometry = gridHeaderOf g in
+    labelled g 11
+    && ((threeFinite g 72 88 136 && whole (latitudeExtent g))
+    && ((threeFinite g 120 104 152 && whole (longitudeExtent g))
+    && (questions3To5 geometry && eqb (countAt g 168) (nodeCount geometry))))
 
--- Are file and buffer, of `room` bytes, of the exact length for so many nodes, and does END stand after them?
-unfoldable pub closed : List ℕ → (nodes room : ℕ) → Bool
-closed b nodes room = eqb (length b) (368 + 16 * nodes) && (eqb room (8 * nodes) && eqb (textAt b (352 + 16 * nodes)) endLabel)
+-- A grid: its PARENT, its header, and a buffer of `room` bytes that is of the exact length for its nodes.
+unfoldable pub gridPasses : List ℕ → (parent room : ℕ) → Bool
+gridPasses g parent room =
+    leb 176 (length g) && (eqb (parentOf g) parent && (headerPasses g && eqb room (8 * nodeCount (gridHeaderOf g))))
 
--- 18. Has the file an overview and a header that pass, and are lengths and END right for the header's nodes?
-unfoldable pub question18 : List ℕ → (room : ℕ) → Bool
-question18 b room =
-    leb 368 (length b) && (overviewPasses b && (headerPasses b && closed b (nodeCount (gridHeaderOf b)) room))
+-- After so many nodes of it, does END stand at the end of the file?
+unfoldable pub closed : List ℕ → (nodes : ℕ) → Bool
+closed g nodes = eqb (length g) (192 + 16 * nodes) && eqb (textAt g (176 + 16 * nodes)) endLabel
+
+-- The first grid follows the overview, and a subgrid the first grid's nodes, of which there are so many.
+abbrev pub firstGrid : List ℕ → List ℕ
+firstGrid b = drop 176 b
+
+abbrev pub subgridAfter : List ℕ → (nodes : ℕ) → List ℕ
+subgridAfter b nodes = drop (352 + 16 * nodes) b
+
+-- What follows those nodes: a subgrid, whose PARENT is the first grid's SUB_NAME, and END; or END alone, and a second buffer of no bytes.
+abbrev pub hasSubgrid : List ℕ → Bool
+hasSubgrid b = eqb (gridCount b) 2
+
+unfoldable pub subgridPasses : List ℕ → (nodes room : ℕ) → Bool
+subgridPasses b nodes room =
+    let dense = subgridAfter b nodes in
+    gridPasses dense (nameOf (firstGrid b)) room && closed dense (nodeCount (gridHeaderOf dense))
+
+unfoldable pub restPasses : List ℕ → (nodes room : ℕ) → Bool
+restPasses b nodes room = cond (hasSubgrid b) (subgridPasses b nodes room) (eqb room 0 && closed (firstGrid b) nodes)
+
+-- 18. With buffers of so many bytes: has the file an overview that passes, a first grid that does and has no parent, and what must follow?
+unfoldable pub question18 : List ℕ → (room denseRoom : ℕ) → Bool
+question18 b room denseRoom =
+    let coarse = firstGrid b in
+    overviewPasses b && (gridPasses coarse noneText room && restPasses b (nodeCount (gridHeaderOf coarse)) denseRoom)
+
+-- The geometries: that of the first grid, and that of the subgrid, or zeros where there is none.
+abbrev pub noAxis : Axis
+noAxis = record { start = pos 0; spacing = 0; count = 0 }
+
+abbrev pub noGeometry : Geometry
+noGeometry = record { latitude = noAxis; longitude = noAxis }
+
+abbrev pub subgridHeaderOf : List ℕ → (nodes : ℕ) → Geometry
+subgridHeaderOf b nodes = cond (hasSubgrid b) (gridHeaderOf (subgridAfter b nodes)) noGeometry
+
+abbrev pub gridsOf : List ℕ → FileGrids
+gridsOf b =
+    let coarse = gridHeaderOf (firstGrid b) in
+    record { coarse = coarse; dense = subgridHeaderOf b (nodeCount coarse) }
 
 -- A node is four f32 in arcseconds: latitude shift, longitude shift, and two accuracies that are not read. The bits of the shifts of the
--- file's node n, and the corrections that they become.
+-- grid's node n, and the corrections that they become.
 abbrev pub latitudeShift : List ℕ → (n : ℕ) → ℕ
-latitudeShift b n = u32At b (352 + 16 * n)
+latitudeShift g n = u32At g (176 + 16 * n)
 
 abbrev pub longitudeShift : List ℕ → (n : ℕ) → ℕ
-longitudeShift b n = u32At b (356 + 16 * n)
+longitudeShift g n = u32At g (180 + 16 * n)
 
 unfoldable pub latitudeFrom : List ℕ → (n : ℕ) → ℤ
-latitudeFrom b n = arcseconds (valueOf binary32 (latitudeShift b n))
+latitudeFrom g n = arcseconds (valueOf binary32 (latitudeShift g n))
 
 unfoldable pub longitudeFrom : List ℕ → (n : ℕ) → ℤ
-longitudeFrom b n = arcseconds (turned (valueOf binary32 (longitudeShift b n)))
+longitudeFrom g n = arcseconds (turned (valueOf binary32 (longitudeShift g n)))
 
--- 19. Are the shifts of every node finite and its corrections within their limit?
+-- 19. Are the shifts of every node finite and its corrections within their limit? In both grids?
 unfoldable pub shiftsFit : List ℕ → (n : ℕ) → Bool
-shiftsFit b n =
-    (finite binary32 (latitudeShift b n) && within correctionLimit (latitudeFrom b n))
-    && (finite binary32 (longitudeShift b n) && within correctionLimit (longitudeFrom b n))
+shiftsFit g n =
+    (finite binary32 (latitudeShift g n) && within correctionLimit (latitudeFrom g n))
+    && (finite binary32 (longitudeShift g n) && within correctionLimit (longitudeFrom g n))
 
-unfoldable pub question19 : List ℕ → (nodes : ℕ) → Bool
-question19 b nodes = every nodes (shiftsFit b)
+unfoldable pub allShiftsFit : List ℕ → (nodes : ℕ) → Bool
+allShiftsFit g nodes = every nodes (shiftsFit g)
 
--- The file's nodes run from the south-east, westward first; ours from the south-west, eastward first. So this is the file's node for our
--- row and column.
+unfoldable pub question19 : List ℕ → (nodes denseNodes : ℕ) → Bool
+question19 b nodes denseNodes = allShiftsFit (firstGrid b) nodes && allShiftsFit (subgridAfter b nodes) denseNodes
+
+-- A grid's nodes run from the south-east, westward first; ours from the south-west, eastward first. So this is its node for our row and
+-- column.
 abbrev pub fileNode : (columns row column : ℕ) → ℕ
 fileNode columns row column = row * columns + (columns - 1 - column)
 
--- The correction nodes of edition 2: what the file's node n becomes, a row of them, and all rows.
+-- The correction nodes of edition 2: what the grid's node n becomes, a row of them, and all rows.
 unfoldable pub correctionNode : List ℕ → (n : ℕ) → List ℕ
-correctionNode b n = bytesOf (latitudeFrom b n) ++ bytesOf (longitudeFrom b n)
+correctionNode g n = bytesOf (latitudeFrom g n) ++ bytesOf (longitudeFrom g n)
 
 unfoldable pub correctionRow : List ℕ → (columns row : ℕ) → List ℕ
-correctionRow b columns row = inSequence (λ column. correctionNode b (fileNode columns row column)) columns
+correctionRow g columns row = inSequence (λ column. correctionNode g (fileNode columns row column)) columns
 
 unfoldable pub correctionNodes : List ℕ → Geometry → List ℕ
-correctionNodes b g = inSequence (correctionRow b (columns g)) (rows g)
+correctionNodes g geometry = inSequence (correctionRow g (columns geometry)) (rows geometry)
 
--- The conversion of a file into a buffer of `room` bytes: the geometry, or a number.
-unfoldable pub correctionsFrom : List ℕ → (room : ℕ) → Outcome Geometry
-correctionsFrom b room =
-    let g = gridHeaderOf b in
-    ask (question18 b room) 18 (ask (question19 b (nodeCount g)) 19 (values g))
+-- The conversion of a file into buffers of `room` and `denseRoom` bytes: the geometries, or a number.
+unfoldable pub correctionsFrom : List ℕ → (room denseRoom : ℕ) → Outcome FileGrids
+correctionsFrom b room denseRoom =
+    let grids = gridsOf b in
+    ask (question18 b room denseRoom) 18
+    (ask (question19 b (nodeCount (grids .coarse)) (nodeCount (grids .dense))) 19 (values grids))
 
--- What the buffer holds after it: the nodes, or with a number what was there before.
-abbrev pub correctionsAfter : List ℕ → (buffer : List ℕ) → List ℕ
-correctionsAfter b buffer = after (andThen (correctionsFrom b (length buffer)) (λ g. values (correctionNodes b g))) buffer
+-- What the buffers hold after it: the nodes of the first grid and those of the subgrid, or with a number what was there before.
+abbrev pub correctionsAfter : List ℕ → (buffer denseBuffer : List ℕ) → List ℕ
+correctionsAfter b buffer denseBuffer =
+    after
+    (andThen (correctionsFrom b (length buffer) (length denseBuffer)) (λ grids. values (correctionNodes (firstGrid b) (grids .coarse))))
+    buffer
+
+abbrev pub denseCorrectionsAfter : List ℕ → (buffer denseBuffer : List ℕ) → List ℕ
+denseCorrectionsAfter b buffer denseBuffer =
+    after
+    (andThen (correctionsFrom b (length buffer) (length denseBuffer))
+    (λ grids. values (correctionNodes (subgridAfter b (nodeCount (grids .coarse))) (grids .dense))))
+    denseBuffer

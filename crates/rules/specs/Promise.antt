@@ -1,5 +1,7 @@
--- Demand 3, the return promise (document 01, "Grid check"). Answered means with values. A trip hands the second way the two angles and the
--- height that the first one answered. Its whole statement is `Promised`, which is proved: `promise`, crates/returning/specs/Return.antt.
+-- Demand 3, the return promise (document 01, "Grid check"), and what of it holds with a dense grid (document 02, note 5). Answered means
+-- with values. A trip hands the second way the two angles and the height that the first one answered. Its whole statement is `Promised`,
+-- which is proved: `promise`, crates/returning/specs/Return.antt.
+use mathlib.Core.Bool.{false, cond}
 use mathlib.Core.List.{List}
 use mathlib.Core.Path.{_≡_}
 use Prim.Native.Nat.{ℕ, _≤_}
@@ -38,26 +40,30 @@ pub record AnglesWithin (d : ℕ) (p q : Point) : Type 0 where
 abbrev pub pointOf : Position → Point
 pointOf a = record { latitude = a .latitude; longitude = a .longitude }
 
+-- How far from the fix an angle returns at most: 1 nd, with a dense grid 3 nd.
+abbrev pub returnDistance : Layout → ℕ
+returnDistance l = cond (l .nested) 3 1
+
 -- A fix p with height h that is answered going out with `outward`, and this, taken back, with `returned`:
-pub record Returns (b : List ℕ) (p : Point) (h : ℤ) (outward returned : Position) : Type 0 where
+pub record Returns (b : List ℕ) (l : Layout) (p : Point) (h : ℤ) (outward returned : Position) : Type 0 where
   -- after at most five grid evaluations, their count in the answer;
   pub at-least-one : 1 ≤ outward .count
   pub at-most-five : outward .count ≤ mostEvaluations
-  -- each angle within 1 nd of the fix's, and the fix's height exactly;
-  pub angles : AnglesWithin 1 (pointOf returned) p
+  -- each angle within 1 nd of the fix's (3 nd with a dense grid), and the fix's height exactly;
+  pub angles : AnglesWithin (returnDistance l) (pointOf returned) p
   pub height : returned .height ≡ h
-  -- every other Bessel point in the bounds (what is answered going back is) that also goes back to within 1 nd of the fix in both angles
-  -- lies within 3 nd of the way out's answer in each angle.
-  pub others : (q : Point) (H : ℤ) (r : Position) → wayBack b q H ≡ values r
+  -- without a dense grid, every other Bessel point in the bounds (what is answered going back is) that also goes back to within 1 nd of the
+  -- fix in both angles lies within 3 nd of the way out's answer in each angle.
+  pub others : l .nested ≡ false → (q : Point) (H : ℤ) (r : Position) → wayBack b q H ≡ values r
       → AnglesWithin 1 (pointOf r) p → AnglesWithin 3 q (pointOf outward)
 
 -- A fix goes out and back.
-pub record OutAndBack (b : List ℕ) (p : Point) (h : ℤ) : Type 0 where
+pub record OutAndBack (b : List ℕ) (l : Layout) (p : Point) (h : ℤ) : Type 0 where
   pub outward : Position
   pub returned : Position
   pub answered : wayOut b p h ≡ values outward
   pub back-again : wayBack b (pointOf outward) (outward .height) ≡ values returned
-  pub returns : Returns b p h outward returned
+  pub returns : Returns b l p h outward returned
 
 -- A Bessel point q with NAP height H goes back and out.
 pub record BackAndOut (b : List ℕ) (q : Point) (H : ℤ) : Type 0 where
@@ -73,9 +79,9 @@ pub record BackAndOut (b : List ℕ) (q : Point) (H : ℤ) : Type 0 where
 -- The promise of an image with its layout, for both kinds of trip.
 pub record ReturnPromise (b : List ℕ) (l : Layout) : Type 0 where
   -- every fix at least 10,000,000 nd inside all four bounds, height in limits
-  pub fixes : (p : Point) (h : ℤ) → Margins fixMargin l p → natAbs h ≤ outHeightLimit → OutAndBack b p h
-  -- every Bessel point at least 20,000,000 nd inside all four bounds, with NAP height within 99,000,000 units of zero
-  pub points : (q : Point) (H : ℤ) → Margins pointMargin l q → natAbs H ≤ pointHeightLimit → BackAndOut b q H
+  pub fixes : (p : Point) (h : ℤ) → Margins fixMargin l p → natAbs h ≤ outHeightLimit → OutAndBack b l p h
+  -- without a dense grid, every Bessel point at least 20,000,000 nd inside all four bounds, with NAP height within 99,000,000 units of zero
+  pub points : l .nested ≡ false → (q : Point) (H : ℤ) → Margins pointMargin l q → natAbs H ≤ pointHeightLimit → BackAndOut b q H
 
 -- Demand 3: every image that passes the grid check, whatever values its nodes hold, has a layout and keeps the promise.
 abbrev pub Promised : Type 0

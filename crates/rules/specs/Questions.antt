@@ -1,21 +1,24 @@
--- Document 01, "Questions in order": questions 1 to 6, which every call that takes an image puts first; and note 1 of document 02, which
--- puts them to both grids of edition 2, the correction grid first in each.
+-- Document 01, "Questions in order": questions 1 to 6, which every call that takes an image puts first; and notes 1 and 5 of document 02:
+-- edition 2 puts them to both of its grids, the correction grid first in each and a dense grid last, and then question 20.
 use mathlib.Core.Bool.{Bool, cond, _&&_}
 use mathlib.Core.List.{List}
-use Prim.Native.Nat.{ℕ}
+use Prim.Native.Nat.{ℕ, _+_}
 use lib.Dec.{leb, eqb}
 use lib.ListN.{length}
 use Rattle.rules.specs.declared.Axis.{Axis}
 use Rattle.rules.specs.declared.Geometry.{Geometry}
 use Rattle.rules.specs.declared.Trailer.{Trailer}
+use Rattle.rules.specs.declared.GridTrailer.{GridTrailer}
 use Rattle.rules.specs.declared.TwoGridTrailer.{TwoGridTrailer}
 use Rattle.rules.specs.declared.Layout.{Layout}
 use Rattle.rules.specs.declared.Opened.{Opened}
 use Rattle.rules.specs.declared.Opened.the-variants as opened
 use Rattle.rules.specs.Units.{latitudeLimit, longitudeLimit, countMost, spacingMost, between, within}
 use Rattle.rules.specs.Answers.{Outcome, values, number, ask, numberOf}
-use Rattle.rules.specs.Image.{trailerOf, editionOf, twoGridTrailerOf, farBound, rows, columns}
-use Rattle.rules.specs.Image.{backOf, heightBackOf, correctionBackOf, layoutOf, twoGridLayoutOf, layoutFor}
+use Rattle.rules.specs.Image.{trailerOf, editionOf, twoGridTrailerOf, isNested, denseTrailerOf, farBound, rows, columns}
+use Rattle.rules.specs.Image.{backOf, heightBackOf, correctionBackOf, denseBackOf}
+use Rattle.rules.specs.Image.{layoutOf, twoGridLayoutOf, nestedLayoutOf, layoutFor}
+use Rattle.rules.specs.Dense.{question20}
 
 -- 1. Is the length at least 40?
 abbrev pub question1 : ℕ → Bool
@@ -61,7 +64,7 @@ judge t size =
     (ask (question6 t size) 6
     (values (layoutOf size (t .geometry)))))))
 
--- Edition 2. Below 80 bytes is a 1, an unknown kind a 2.
+-- Edition 2. Below 80 bytes is a 1, an unknown kind a 2; kind 1 has its own questions, below.
 abbrev pub lengthOfTwo : ℕ → Bool
 lengthOfTwo size = leb 80 size
 
@@ -79,7 +82,7 @@ backsPass t size =
     let h = t .heights in
     backPasses (c .back) (correctionBackOf (c .geometry) (h .geometry)) size && backPasses (h .back) (heightBackOf (h .geometry)) size
 
--- Edition 2's questions 2 to 6.
+-- Edition 2's questions 2 to 6, of kind 0.
 unfoldable pub judgeTwo : TwoGridTrailer → ℕ → Outcome Layout
 judgeTwo t size =
     ask (kindKnown t) 2
@@ -89,9 +92,40 @@ judgeTwo t size =
     (ask (backsPass t size) 6
     (values (twoGridLayoutOf size (t .corrections .geometry) (t .heights .geometry)))))))
 
+-- Kind 1. A length below 36 plus the correction nodes' back, as the trailer has it, is a 1.
+abbrev pub lengthOfNested : TwoGridTrailer → ℕ → Bool
+lengthOfNested t size = leb (36 + t .corrections .back) size
+
+-- A question of the correction grid, of the height grid, and of the dense grid d.
+abbrev pub ofAll : (Geometry → Bool) → GridTrailer → TwoGridTrailer → Bool
+ofAll question d t = ofBoth question t && question (d .geometry)
+
+-- 6 of each: the dense nodes, then the 36 bytes, then the correction nodes touch each other too.
+unfoldable pub allBacksPass : GridTrailer → TwoGridTrailer → ℕ → Bool
+allBacksPass d t size =
+    backsPass t size && backPasses (d .back) (denseBackOf (d .geometry) (t .corrections .geometry) (t .heights .geometry)) size
+
+-- Kind 1's questions 3 to 6, then 20.
+unfoldable pub judgeNested : GridTrailer → TwoGridTrailer → ℕ → Outcome Layout
+judgeNested d t size =
+    ask (ofAll question3 d t) 3
+    (ask (ofAll question4 d t) 4
+    (ask (ofAll question5 d t) 5
+    (ask (allBacksPass d t size) 6
+    (ask (question20 (t .corrections .geometry) (d .geometry)) 20
+    (values (nestedLayoutOf size (d .geometry) (t .corrections .geometry) (t .heights .geometry)))))))
+
 -- The same of an image's bytes, question 1 first.
+unfoldable pub openingNested : List ℕ → Outcome Layout
+openingNested b =
+    let t = twoGridTrailerOf b in
+    ask (lengthOfNested t (length b)) 1 (judgeNested (denseTrailerOf b) t (length b))
+
+-- Edition 2, question 1 first; a kind that is not 1 is judged as kind 0.
 unfoldable pub openingTwo : List ℕ → Outcome Layout
-openingTwo b = ask (lengthOfTwo (length b)) 1 (judgeTwo (twoGridTrailerOf b) (length b))
+openingTwo b =
+    let t = twoGridTrailerOf b in
+    ask (lengthOfTwo (length b)) 1 (cond (isNested t) (openingNested b) (judgeTwo t (length b)))
 
 -- Questions 1 to 6, of an image's bytes: where its values lie, or a number. An image of 40 bytes or more has an edition; edition 2 is
 -- judged by its own trailer, and any other as edition 1, whose question 2 it then meets.

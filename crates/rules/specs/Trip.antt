@@ -35,13 +35,13 @@ tripOf (trip-answer.Returned t) = values t
 tripOf (trip-answer.Refused r) = number (numberOf r)
 
 -- A trip keeps the promise where it returns as the promise says; a refusal does not.
-abbrev pub Keeps : List ℕ → Point → ℤ → TripAnswer → Type 0
-Keeps b p h (trip-answer.Returned t) = Returns b p h (t .outward) (t .returned)
-Keeps b p h (trip-answer.Refused r) = ⊥
+abbrev pub Keeps : List ℕ → Layout → Point → ℤ → TripAnswer → Type 0
+Keeps b l p h (trip-answer.Returned t) = Returns b l p h (t .outward) (t .returned)
+Keeps b l p h (trip-answer.Refused r) = ⊥
 
 -- What the promise says of the trip of any fix: it keeps the promise where the image opens and passes the check, the fix is at least
 -- 10,000,000 nd inside all four bounds, and its height is in limits.
 abbrev pub KeepsWhere : List ℕ → Point → ℤ → TripAnswer → Type 0
 KeepsWhere b p h r =
     (l : Layout) (f : Findings) → opening b ≡ values l → gridCheck b ≡ values f
-    → Margins fixMargin l p → natAbs h ≤ outHeightLimit → Keeps b p h r
+    → Margins fixMargin l p → natAbs h ≤ outHeightLimit → Keeps b l p h r

@@ -45,9 +45,12 @@ correctionLimit = 10000000
 abbrev pub quasiGeoidLimit : ℕ
 quasiGeoidLimit = 1000000
 
--- The way out: the stop rule's distance in nd, and how many evaluations it makes at most.
+-- The way out: the stop rule's distance in nd, that with a dense grid (document 02, note 5), and how many evaluations it makes at most.
 abbrev pub stopDistance : ℕ
 stopDistance = 1
+
+abbrev pub denseStopDistance : ℕ
+denseStopDistance = 3
 
 abbrev pub mostEvaluations : ℕ
 mostEvaluations = 5

@@ -1,5 +1,5 @@
 -- Document 01, "Way back and way out", with questions 7 to 11 in their order, and 15 of document 02's note 1 where the height is looked up:
--- after 11 going out, after 9 going back.
+-- after 11 going out, after 9 going back; and with a dense grid note 5's lookup and stop distance.
 use mathlib.Core.Bool.{Bool, cond, _&&_}
 use mathlib.Core.List.{List}
 use Prim.Native.Nat.{ℕ, zero, suc, _+_}
@@ -11,14 +11,17 @@ use Rattle.rules.specs.declared.Way.{Way}
 use Rattle.rules.specs.declared.Way.the-variants as way
 use Rattle.rules.specs.declared.Answer.{Answer}
 use Rattle.rules.specs.declared.Answer.the-variants as answer
-use Rattle.rules.specs.Units.{within, latitudeLimit, longitudeLimit, outHeightLimit, backHeightLimit, stopDistance, mostEvaluations}
+use Rattle.rules.specs.Units.{within, latitudeLimit, longitudeLimit, outHeightLimit, backHeightLimit}
+use Rattle.rules.specs.Units.{stopDistance, denseStopDistance, mostEvaluations}
 use Rattle.rules.specs.Answers.{Outcome, values, number, ask, andThen, numberOf}
 use Rattle.rules.specs.Image.{Grid, gridOf}
 use Rattle.rules.specs.Questions.{opening}
-use Rattle.rules.specs.Lookup.{inside, correctionLookup, heightLookup, correctionGridLookup, heightGridLookup}
+use Rattle.rules.specs.Lookup.{inside, correctionLookup, heightLookup, correctionGridLookup, heightGridLookup, gridFor}
 
--- What a way asks of a grid: whether a point is in the bounds, and there its corrections and its quasi-geoid height, or a number.
+-- What a way asks of a grid: the stop rule's distance, whether a point is in the bounds, and there its corrections and its quasi-geoid
+-- height, or a number.
 pub record Source : Type 0 where
+  pub stop : ℕ
   pub inside : Point → Bool
   pub corrections : Point → Outcome Correction
   pub height : Point → Outcome ℤ
@@ -69,7 +72,7 @@ iterate s stop p (suc left) n r =
 -- and n, which does not count the height lookup.
 unfoldable pub out : Source → Point → ℤ → Outcome Position
 out s p h =
-    andThen (iterate s stopDistance p mostEvaluations 0 p) (λ e.
+    andThen (iterate s (s .stop) p mostEvaluations 0 p) (λ e.
     andThen (s .height (e .point)) (λ z.
     values (position (e .point) (h -ℤ z) (e .count))))
 
@@ -87,12 +90,14 @@ unfoldable pub convertOver : Way → Source → Point → ℤ → Outcome Positi
 convertOver w s p h = ask (question7 (heightLimit w) p h) 7 (ask (s .inside p) 8 (wayOf w s p h))
 
 -- A grid's answers: the bounds of questions 8 and 10 are those of the corrections; the lookups are edition 2's where the heights stand on
--- a separate grid, else edition 1's.
+-- a separate grid, else edition 1's. Where a dense grid is nested, the stop rule uses its distance, and the lookup of corrections its nodes
+-- in its bounds.
 abbrev pub sourceOf : Grid → Source
 sourceOf g =
     record {
+      stop = cond (g .nested) denseStopDistance stopDistance;
       inside = inside (g .corrections);
-      corrections = λ p. cond (g .separate) (correctionGridLookup g p) (correctionLookup g p);
+      corrections = λ p. cond (g .separate) (correctionGridLookup (gridFor g p) p) (correctionLookup g p);
       height = λ q. cond (g .separate) (heightGridLookup g q) (heightLookup g q);
     }
 

@@ -21,8 +21,10 @@ pub const CORRECTION_LIMIT: u64 = 10_000_000;
 
 pub const QUASI_GEOID_LIMIT: u64 = 1_000_000;
 
-// The way out: the stop rule's distance in nd, and the most evaluations.
+// The way out: the stop rule's distance in nd, with a dense grid the wider one, and the most evaluations.
 pub const STOP_DISTANCE: u64 = 1;
+
+pub const DENSE_STOP_DISTANCE: u64 = 3;
 
 pub const MOST_EVALUATIONS: u64 = 5;
 
@@ -47,7 +49,8 @@ pub struct Trailer {
     pub edition: u64,
 }
 
-// A grid as the trailer of edition 2 has it: its geometry, and the distance from the image's end to its first node.
+// A grid as edition 2 has it, in its trailer or, of a dense grid, before the correction nodes: its geometry, and the distance from the
+// image's end to its first node.
 pub struct GridTrailer {
     pub geometry: Geometry,
     pub back: u64,
@@ -68,13 +71,17 @@ pub struct Plane {
     pub stride: u64,
 }
 
-// Where an opened image has its values: the planes of latitude corrections, of longitude corrections and of quasi-geoid heights; and
-// whether these stand on a separate grid, as in edition 2, or at the corrections' nodes, as in edition 1.
+// Where an opened image has its values: the planes of latitude corrections, of longitude corrections and of quasi-geoid heights; whether
+// these stand on a separate grid, as in edition 2, or at the corrections' nodes, as in edition 1; and whether a dense grid lies inside that
+// of the corrections, with the plane of its latitude corrections, each followed by the node's longitude correction. Where there is no dense
+// grid, `dense` is the plane of latitude corrections once more, and nothing reads it.
 pub struct Layout {
     pub separate: bool,
+    pub nested: bool,
     pub latitude: Plane,
     pub longitude: Plane,
     pub height: Plane,
+    pub dense: Plane,
 }
 
 // Values that follow each other in an image, those of a plane or of a row of it: the byte where the first begins, and how many bytes after
@@ -158,7 +165,7 @@ pub struct Scale {
     pub under: u64,
 }
 
-// The refusals, in the order of their numbers, 1 to 19.
+// The refusals, in the order of their numbers, 1 to 21.
 pub enum Refusal {
     ImageLength,
     Edition,
@@ -179,6 +186,8 @@ pub enum Refusal {
     VdatumHeight,
     Ntv2File,
     Ntv2Shift,
+    DenseAlignment,
+    DenseBorder,
 }
 
 // What opening an image answers: whether its heights stand on a separate grid, which with its trailer says where its values lie; or a
@@ -227,6 +236,18 @@ pub enum AxisRead {
 // What the conversion of a grid file answers: the geometry of the nodes that it wrote.
 pub enum FileAnswer {
     Converted(Geometry),
+    Refused(Refusal),
+}
+
+// The geometries of the grids of an NTv2 file: of its first grid, and of the dense one inside it, or zeros where it has none.
+pub struct FileGrids {
+    pub coarse: Geometry,
+    pub dense: Geometry,
+}
+
+// What the conversion of an NTv2 file answers: the geometries of the nodes that it wrote.
+pub enum FileGridsAnswer {
+    Converted(FileGrids),
     Refused(Refusal),
 }
 

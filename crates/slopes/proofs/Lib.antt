@@ -1,5 +1,2 @@
--- Laws of the walk over all rows, for its functions and for the crate above.
-pub mod Rows
-pub mod Maxima
-pub mod PlaneRows
-pub mod Planes
+-- Laws of the check: what its walks leave to be asked, and how small the steps are.
+pub mod Asking

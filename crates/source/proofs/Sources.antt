@@ -1,10 +1,9 @@
 -- A grid's source where the heights stand at the corrections' nodes and where they stand on a separate grid, and the limit of the heights
 -- that it gives.
-use mathlib.Core.Bool.{Bool, true, false, _&&_}
+use mathlib.Core.Bool.{Bool, true, false, cond, _&&_}
 use mathlib.Core.List.{List}
 use mathlib.Core.Path.{_≡_, refl, sym, ap, _∙_}
 use Prim.Native.Nat.{ℕ, _≤_}
-use native.Mathlib.Nat.{mul-pos}
 use native.Mathlib.Omega.{arith}
 use lib.IntN.{ℤ, natAbs, _+ℤ_}
 use lib.ListN.{length}
@@ -12,25 +11,24 @@ use Rattle.rules.specs.declared.Geometry.{Geometry}
 use Rattle.rules.specs.declared.Layout.{Layout}
 use Rattle.rules.specs.declared.Point.{Point}
 use Rattle.rules.specs.declared.Correction.{Correction}
-use Rattle.rules.specs.declared.Runs.{Runs}
 use Rattle.rules.specs.Units.{correctionLimit, quasiGeoidLimit}
 use Rattle.rules.specs.Answers.{Outcome, values, number, ask, andThen}
 use Rattle.rules.specs.Image.{Grid, gridOf}
-use Rattle.rules.specs.Limits.{GeometryPasses}
+use Rattle.rules.specs.Limits.{GeometryPasses, OpenAround}
 use Rattle.rules.specs.Bilinear.{cornersFor, valueAt}
 use Rattle.rules.specs.Lookup.{inside, squarePasses, question9, correctionsPass, heightsPass}
-use Rattle.rules.specs.Lookup.{correctionLookup, correctionGridLookup, heightLookup, heightGridLookup}
+use Rattle.rules.specs.Lookup.{correctionLookup, correctionGridLookup, heightLookup, heightGridLookup, gridFor}
 use Rattle.rules.specs.Ways.{Source, plus, position, back, sourceOf}
 use Rattle.rules.proofs.Answers.{asked, followed}
 use Rattle.rules.proofs.Limits.{corners-within}
-use Rattle.rules.proofs.Weights.{value-within}
 use Rattle.lookup.specs.declared.HeldCell.{HeldCell}
 use Rattle.lookup.specs.declared.PointValues.{PointValues}
-use Rattle.lookup.specs.Held.{runsOf, CellsOpen, Bounded, Holds, heldAt, heightIn, valueIn, nodeLookup}
-use Rattle.grids.specs.Grids.{correctionCell, heightCell, gridsLookup, heightOn}
-use Rattle.lookup.proofs.Found.{bounded, cells-open, held-holds, height-from, height-in-within}
-use Rattle.lookup.proofs.Places.{place-inside}
-use Rattle.source.specs.Asked.{OpenAround, pointValues, pointLookup}
+use Rattle.lookup.specs.Held.{Holds, heldAt, heightIn, valueIn, nodeLookup}
+use Rattle.grids.specs.Grids.{correctionCell, correctionCellFor, heightCell, heightBetween, gridsLookup, heightOn}
+use Rattle.lookup.proofs.Covering.{bounded-around, itself-serves}
+use Rattle.lookup.proofs.Found.{between-within, cell-holds, height-from, height-in-within}
+use Rattle.lookup.proofs.Places.{in-cell}
+use Rattle.source.specs.Asked.{pointValues, pointLookup}
 
 -- Where both lookups find values, each does; where one refuses, the way back has its number.
 module _ (s : Source) (q : Point) where
@@ -75,16 +73,18 @@ in-order true false u a b f h pair = refl
 in-order false t u a b f h pair = refl
 
 pub grids-asked : (g : Grid) (q : Point) → g .separate ≡ true → gridsLookup g q ≡ pointLookup (sourceOf g) q
-unfolding gridsLookup correctionCell heightCell pointLookup correctionGridLookup heightGridLookup correctionsPass heightsPass valueAt
-    valueIn
+unfolding gridsLookup correctionCellFor correctionCell heightCell pointLookup correctionGridLookup heightGridLookup correctionsPass
+    heightsPass valueAt valueIn
 grids-asked g q two =
-    let c = g .corrections in
+    let k = gridFor g q in
+    let c = k .corrections in
     let h = g .heights in
-    rw two
-    (in-order (squarePasses correctionLimit (cornersFor c (g .latitude) q) && squarePasses correctionLimit (cornersFor c (g .longitude) q))
+    in-order (squarePasses correctionLimit (cornersFor c (k .latitude) q) && squarePasses correctionLimit (cornersFor c (k .longitude) q))
     (inside h q) (squarePasses quasiGeoidLimit (cornersFor h (g .height) q)) _ _
-    (λ x. record { latitude = valueIn (x .latitude) c (x .at); longitude = valueIn (x .longitude) c (x .at) })
-    (λ y. valueIn (y .height) h (y .at)) pointValues)
+    (λ x. record { latitude = valueIn (x .latitude) (x .spacings) (x .at); longitude = valueIn (x .longitude) (x .spacings) (x .at) })
+    heightBetween pointValues
+    ∙ (λ i. andThen (cond (sym two i) (correctionGridLookup k q) (correctionLookup g q)) (λ c.
+    andThen (cond (sym two i) (heightGridLookup g q) (heightLookup g q)) (λ z. values (pointValues c z))))
 
 -- The height's lookup, there and on a separate grid.
 pub height-of-one : (g : Grid) (q : Point) → g .separate ≡ false → sourceOf g .height q ≡ heightLookup g q
@@ -94,30 +94,27 @@ pub height-of-two : (g : Grid) (q : Point) → g .separate ≡ true → sourceOf
 unfolding heightGridLookup heightsPass heightOn
 height-of-two g q two = rw two refl
 
--- The cell around a point in the bounds can be read from the runs of the layout.
-pub cell-asked : {b : List ℕ} {l : Layout} {q : Point} {r : Runs} → OpenAround b l q → r ≡ runsOf l
-    → CellsOpen (length b) (l .separate) (l .latitude .geometry) r × Bounded (l .latitude .geometry) q
-cell-asked o e = (cells-open (o .layout) e, bounded (o .layout .latitude .geometry) (o .point))
+-- The held cell around a point holds it, and at the corrections' nodes has its height.
+module _ {b : List ℕ} {l : Layout} {q : Point} {h : HeldCell} (o : OpenAround b l q)
+    (e : h ≡ heldAt (l .latitude .geometry) (gridOf b l) q)
+  where
+    pub around-holds : Holds h (l .latitude .geometry) q
+    around-holds =
+        cell-holds (l .latitude .geometry) (gridOf b l) q (itself-serves (bounded-around o)) (bounded-around o) h e
 
--- It holds the point, and at the corrections' nodes has its height.
-module _ {b : List ℕ} {l : Layout} {q : Point} {h : HeldCell} (o : OpenAround b l q) (e : h ≡ heldAt (gridOf b l) q) where
-  pub around-holds : Holds h (l .latitude .geometry) q
-  around-holds = held-holds (gridOf b l) q _ e (bounded (o .layout .latitude .geometry) (o .point))
-
-  pub height-around : l .separate ≡ false → heightLookup (gridOf b l) q ≡ heightIn h (l .latitude .geometry) q
-  height-around one = height-from (gridOf b l) q _ e one (o .layout .height-geometry one)
+    pub height-around : l .separate ≡ false → heightIn h (l .latitude .geometry) q ≡ heightLookup (gridOf b l) q
+    height-around one =
+        rw e
+        (height-from (l .latitude .geometry) (gridOf b l) q (itself-serves (bounded-around o)) one (o .layout .height-geometry one))
 
 -- A height that is found is within question 9's limit.
 on-within : (g : Geometry) (f : ℕ → ℕ → ℤ) (q : Point) (z : ℤ) → GeometryPasses g → heightOn g f q ≡ values z → natAbs z ≤ quasiGeoidLimit
-unfolding heightOn valueAt
+unfolding heightOn valueAt valueIn
 on-within g f q z o e =
     let inner = asked (inside g q) 15 _ z e in
     let t = asked (squarePasses quasiGeoidLimit (cornersFor g f q)) 9 _ z (inner .1) in
     let v : valueAt g f q ≡ z = cc (t .1) in
-    let at = place-inside (bounded o (inner .0)) refl in
-    let w = value-within (cornersFor g f q) (corners-within _ _ (t .0)) (at .u-most) (at .v-most)
-    (mul-pos (at .latitude-spacing .least) (at .longitude-spacing .least)) in
-    rw v at w
+    rw v at (between-within (cornersFor g f q) (corners-within _ _ (t .0)) (in-cell (record { geometry = o; point = inner .0 })))
 
 pub height-within : {b : List ℕ} {l : Layout} {q : Point} (z : ℤ) → OpenAround b l q → sourceOf (gridOf b l) .height q ≡ values z
     → natAbs z ≤ quasiGeoidLimit
@@ -128,6 +125,6 @@ height-within {b} {l} {q} z o e = by (l .separate) refl
 
     by : (separate : Bool) → l .separate ≡ separate → natAbs z ≤ quasiGeoidLimit
     by false one =
-        height-in-within (heldAt g q) (g .corrections) q z (around-holds o refl)
-        (sym (height-around o refl one) ∙ sym (height-of-one g q one) ∙ e)
+        height-in-within (heldAt (g .corrections) g q) (g .corrections) q z (around-holds o refl)
+        (height-around o refl one ∙ sym (height-of-one g q one) ∙ e)
     by true two = on-within (g .heights) (g .height) q z (o .layout .height .geometry) (sym (height-of-two g q two) ∙ e)

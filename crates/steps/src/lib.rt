@@ -157,7 +157,7 @@ fn correction_of(image: &[u8], row: CorrectionRuns, column: u64) -> Correction
 }
 
 // One of its values, from its plane's run.
-fn run_value(image: &[u8], run: Run, column: u64) -> i64
+pub fn run_value(image: &[u8], run: Run, column: u64) -> i64
     requires { ⌜ ValueInside (length (now image)) run column ⌝ }
     ensures { λ r. ⌜ r ≡ runValue (now (image .entry)) run column ⌝ }
 {

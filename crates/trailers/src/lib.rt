@@ -1,4 +1,4 @@
-// The trailers of both editions, read from an image's last bytes.
+// The trailers of both editions, read from an image's last bytes, and the geometry of a dense grid.
 use numbers::i64_at;
 use numbers::u32_at;
 use rules::Axis;
@@ -9,7 +9,7 @@ use rules::TwoGridTrailer;
 ghost use mathlib.Core.Path.{_≡_};
 ghost use Prim.Native.Nat.{_+_, _≤_};
 ghost use lib.ListN.{length};
-ghost use Rattle.rules.specs.Image.{geometryAt, trailerOf, editionOf, twoGridTrailerOf};
+ghost use Rattle.rules.specs.Image.{geometryAt, trailerOf, editionOf, twoGridTrailerOf, denseTrailerOf};
 
 // The edition, the last number in both editions.
 pub fn read_edition(image: &[u8]) -> u64
@@ -59,6 +59,18 @@ pub fn read_two_grid_trailer(image: &[u8]) -> TwoGridTrailer
         heights,
         kind,
     }
+}
+
+// The geometry and the back of kind 1's dense grid, from the 36 bytes directly before the correction nodes, which lie `correction_back`
+// before the image's end.
+pub fn read_dense_trailer(image: &[u8], correction_back: u64) -> GridTrailer
+    requires { ⌜ (36 + «correction_back» ≤ length (now image)) × («correction_back» ≡ twoGridTrailerOf (now image) .corrections .back) ⌝ }
+    ensures { λ r. ⌜ r ≡ denseTrailerOf (now (image .entry)) ⌝ }
+{
+    let at = image.len() - 36 - correction_back as usize;
+    let geometry = geometry_at(image, at);
+    let back = u32_at(image, at + 32);
+    GridTrailer { geometry, back }
 }
 
 // The 32 bytes of a geometry.

@@ -11,8 +11,8 @@ use ways::convert;
 ghost use mathlib.Core.Path.{_≡_};
 ghost use Rattle.rules.specs.Trip as rule;
 
-// A trip over any image. Where the image passes the check, the fix is at least 10,000,000 nd inside and its height in limits,
-// the trip returns, as the return promise says.
+// A trip over any image. Where the image passes the check, the fix is at least 10,000,000 nd inside and its height in limits, the trip
+// returns, as the return promise says: within 1 nd, with a dense grid within 3 nd, and with the very height.
 pub fn round_trip(image: &[u8], p: Point, height: i64) -> TripAnswer
     ensures values { λ r. ⌜ rule.tripOf r ≡ rule.trip (now (image .entry)) p height ⌝ }
     ensures promise { λ r. ⌜ rule.KeepsWhere (now (image .entry)) p height r ⌝ }

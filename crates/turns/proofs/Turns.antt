@@ -1,16 +1,19 @@
 -- An evaluation's turn is one step of document 01's iteration, and leads inside the bounds.
 use mathlib.Core.Bool.{Bool, true, false, cond}
+use mathlib.Core.List.{List}
 use mathlib.Core.Path.{_≡_, refl}
 use Prim.Native.Nat.{ℕ, suc, _+_, _-_, _<_}
 use native.Mathlib.Omega.{arith}
 use Rattle.rules.specs.declared.Geometry.{Geometry}
+use Rattle.rules.specs.declared.Layout.{Layout}
 use Rattle.rules.specs.declared.Point.{Point}
 use Rattle.rules.specs.declared.Refusal.the-variants.{NodeLimits, IterateOutside}
-use Rattle.rules.specs.Units.{stopDistance, mostEvaluations}
+use Rattle.rules.specs.Units.{mostEvaluations}
 use Rattle.rules.specs.Answers.{Outcome, values, number, ask, numberOf}
-use Rattle.rules.specs.Image.{Grid}
-use Rattle.rules.specs.Lookup.{inside}
-use Rattle.rules.specs.Ways.{Settled, settled, minus, iterate, sourceOf}
+use Rattle.rules.specs.Image.{gridOf}
+use Rattle.rules.specs.Limits.{OpenAround}
+use Rattle.rules.specs.Lookup.{inside, gridFor}
+use Rattle.rules.specs.Ways.{Source, Settled, settled, minus, iterate, sourceOf}
 use Rattle.lookup.specs.declared.HeldCell.{HeldCell}
 use Rattle.lookup.specs.Held.{correctionsIn, heldAt}
 use Rattle.rules.proofs.Answers.{asked-then}
@@ -49,20 +52,26 @@ by-answers g true true true q n more e = (refl, e)
 by-answers g true true false q n more e = (refl, e)
 
 -- With n evaluations made of those that the way out makes at most, the next one, in the cell around r.
-module _ (g : Grid) (p : Point) where
+module _ (b : List ℕ) (l : Layout) (p : Point) where
+  abbrev source : Source
+  source = sourceOf (gridOf b l)
+
+  abbrev bounds : Geometry
+  bounds = l .latitude .geometry
+
   -- the iteration from r on, after n evaluations
   abbrev pub from : ℕ → Point → Outcome Settled
-  from n r = iterate (sourceOf g) stopDistance p (mostEvaluations - n) n r
+  from n r = iterate source (source .stop) p (mostEvaluations - n) n r
 
-  pub one-turn : (r : Point) (h : HeldCell) (t : Turn) (n : ℕ)
-      → h ≡ heldAt g r → t ≡ evaluationOf h (g .corrections) p r → n < mostEvaluations
-      → (from n r ≡ onward t n (from (n + 1))) × LeadsInside (g .corrections) t
+  pub one-turn : (r : Point) (h : HeldCell) (t : Turn) (n : ℕ) → OpenAround b l r
+      → h ≡ heldAt bounds (gridFor (gridOf b l) r) r → t ≡ evaluationOf h bounds (source .stop) p r → n < mostEvaluations
+      → (from n r ≡ onward t n (from (n + 1))) × LeadsInside bounds t
   unfolding iterate evaluationOf turnOf
-  one-turn r h t n e v l =
+  one-turn r h t n o e v m =
       let k : mostEvaluations - n ≡ suc (mostEvaluations - (n + 1)) = omega arith in
-      let q = minus p (correctionsIn h (g .corrections) r) in
-      rw (v, k, corrections-from g r h e, asked-then)
-      (by-answers (g .corrections) (h .passes) (inside (g .corrections) q) (settled stopDistance q r) q n (from (n + 1)) refl)
+      let q = minus p (correctionsIn h bounds r) in
+      rw (v, k, corrections-from b l r h o e, asked-then)
+      (by-answers bounds (h .passes) (inside bounds q) (settled (source .stop) q r) q n (from (n + 1)) refl)
 
   -- With all made, 11.
   pub spent : (r : Point) (n : ℕ) → n ≡ mostEvaluations → from n r ≡ number 11

@@ -7,10 +7,8 @@ use rules::Correction;
 use rules::Geometry;
 use rules::Point;
 use rules::Refusal;
-use rules::STOP_DISTANCE;
 ghost use mathlib.Core.Path.{_≡_};
 ghost use mathlib.Core.Bool.{true};
-ghost use Rattle.rules.specs.Units.{stopDistance};
 ghost use Rattle.rules.specs.Limits.{PointWithin, CorrectionWithin};
 ghost use Rattle.rules.specs.Lookup.{inside};
 ghost use Rattle.rules.specs.Ways as ways;
@@ -25,39 +23,39 @@ pub enum Turn {
 }
 
 // One evaluation at r, of the way out from p: question 9 for r's cell h, then what p minus the corrections there leads to.
-pub fn evaluation(h: HeldCell, g: Geometry, p: Point, r: Point) -> Turn
-    requires { ⌜ (inside g p ≡ true) × Holds h g r ⌝ }
-    ensures { λ t. ⌜ t ≡ evaluationOf h g p r ⌝ }
+pub fn evaluation(h: HeldCell, bounds: Geometry, stop: u64, p: Point, r: Point) -> Turn
+    requires { ⌜ (inside bounds p ≡ true) × Holds h bounds r ⌝ }
+    ensures { λ t. ⌜ t ≡ evaluationOf h bounds stop p r ⌝ }
 {
     if !h.passes {
         return Turn::Refused(Refusal::NodeLimits);
     }
-    turn_to(g, r, moved(p, corrections_in(h, g, r)))
+    turn_to(bounds, stop, r, moved(p, corrections_in(h, bounds, r)))
 }
 
 // Question 10 for q, then the stop rule against r.
-fn turn_to(g: Geometry, r: Point, q: Point) -> Turn
-    requires { ⌜ Bounded g r ⌝ }
-    ensures { λ t. ⌜ t ≡ turnOf g r q ⌝ }
+fn turn_to(bounds: Geometry, stop: u64, r: Point, q: Point) -> Turn
+    requires { ⌜ Bounded bounds r ⌝ }
+    ensures { λ t. ⌜ t ≡ turnOf bounds stop r q ⌝ }
 {
-    if !in_bounds(g, q) {
+    if !in_bounds(bounds, q) {
         return Turn::Refused(Refusal::IterateOutside);
     }
-    if is_settled(q, r) {
+    if is_settled(stop, q, r) {
         return Turn::Settled(q);
     }
     Turn::Next(q)
 }
 
 // The stop rule: each angle differs by at most the stop distance.
-fn is_settled(q: Point, r: Point) -> bool
+fn is_settled(stop: u64, q: Point, r: Point) -> bool
     requires { ⌜ PointWithin q × PointWithin r ⌝ }
-    ensures { λ b. ⌜ b ≡ ways.settled stopDistance q r ⌝ }
+    ensures { λ b. ⌜ b ≡ ways.settled stop q r ⌝ }
 {
     let northward = q.latitude - r.latitude;
     let eastward = q.longitude - r.longitude;
-    if is_within(northward, STOP_DISTANCE) {
-        is_within(eastward, STOP_DISTANCE)
+    if is_within(northward, stop) {
+        is_within(eastward, stop)
     } else {
         false
     }

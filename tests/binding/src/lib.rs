@@ -59,19 +59,21 @@ extern "C" {
     pub fn marker_write_notation(longitude: bool, nd: i64, notation: *mut u64) -> i64;
 }
 
-/// Declares the conversions of grid files, which are alike but for their names.
-macro_rules! file_calls {
-    ($($name:ident),*) => {
-        extern "C" {
-            $(pub fn $name(
-                file: *const u8,
-                file_length: usize,
-                nodes: *mut u8,
-                nodes_length: usize,
-                geometry: *mut i64,
-            ) -> i64;)*
-        }
-    };
+extern "C" {
+    pub fn marker_heights_from_vdatum(
+        file: *const u8,
+        file_length: usize,
+        nodes: *mut u8,
+        nodes_length: usize,
+        geometry: *mut i64,
+    ) -> i64;
+    pub fn marker_corrections_from_ntv2(
+        file: *const u8,
+        file_length: usize,
+        nodes: *mut u8,
+        nodes_length: usize,
+        dense: *mut u8,
+        dense_length: usize,
+        geometry: *mut i64,
+    ) -> i64;
 }
-
-file_calls!(marker_heights_from_vdatum, marker_corrections_from_ntv2);

@@ -2,7 +2,7 @@
 
 use crate::lent::Lent;
 use crate::random::Random;
-use crate::{Converter, File, Way};
+use crate::{Converter, File, FileRoom, Way};
 use reference::{Axis, Notation, Number};
 
 /// What a list call is given.
@@ -24,14 +24,14 @@ pub enum Call {
     ConvertFile(File),
 }
 
-/// What a call did: its number, what the memory lent for its values and for nodes holds
-/// afterwards, and whether the memory lent for reading and everything beside the lent parts is
-/// unchanged.
+/// What a call did: its number, what the memory lent for its values, for nodes and for those of a
+/// subgrid holds afterwards, and whether the memory lent for reading and everything beside the lent
+/// parts is unchanged.
 #[derive(Clone, Debug, PartialEq, Eq)]
 pub struct Outcome {
     pub number: Number,
     pub written: Vec<i64>,
-    pub nodes: Vec<u8>,
+    pub nodes: [Vec<u8>; 2],
     pub rest_unchanged: bool,
 }
 
@@ -100,24 +100,34 @@ fn perform_writing(converter: &dyn Converter, axis: Axis, nd: i64) -> Outcome {
     Outcome {
         number,
         written: notation.values().iter().map(|it| *it as i64).collect(),
-        nodes: Vec::new(),
+        nodes: Default::default(),
         rest_unchanged: notation.guards_hold(),
     }
 }
 
-/// The buffer for nodes is moved by other bytes than the file, so that each of them ends right
+/// The buffers for nodes are moved by other bytes than the file, so that each of them ends right
 /// before the closed page in its turn.
 fn perform_file(converter: &dyn Converter, file: &File, shift: usize) -> Outcome {
     let mut bytes = Lent::new(&file.bytes, shift, BYTE_GUARD);
-    let marks: Vec<u8> = (0..file.buffer_length).map(byte_mark).collect();
-    let mut nodes = Lent::new(&marks, 7 - shift, BYTE_GUARD);
-    let mut geometry = unwritten(6);
-    let geometry_part = geometry.part().try_into().expect("six numbers");
-    let number = converter.convert_file(file.format, bytes.part(), nodes.part(), geometry_part);
-    let rest_unchanged = bytes.still_holds(&file.bytes) && nodes.guards_hold();
+    let [mut nodes, mut dense] = [(0, 7 - shift), (1, (shift + 3) % 8)].map(|(buffer, shift)| {
+        let marks: Vec<u8> = (0..file.buffer_lengths[buffer]).map(byte_mark).collect();
+        Lent::new(&marks, shift, BYTE_GUARD)
+    });
+    let mut geometry = unwritten(file.format.layout().geometry_numbers);
+    let room = FileRoom {
+        nodes: nodes.part(),
+        dense: dense.part(),
+        geometry: geometry.part(),
+    };
+    let number = converter.convert_file(file.format, bytes.part(), room);
+    let guards_hold = nodes.guards_hold() && dense.guards_hold();
     Outcome {
-        nodes: nodes.values().to_vec(),
-        ..outcome(number, &geometry, rest_unchanged)
+        nodes: [nodes.values().to_vec(), dense.values().to_vec()],
+        ..outcome(
+            number,
+            &geometry,
+            bytes.still_holds(&file.bytes) && guards_hold,
+        )
     }
 }
 
@@ -125,7 +135,7 @@ fn outcome(number: Number, values: &Lent<i64>, inputs_unchanged: bool) -> Outcom
     Outcome {
         number,
         written: values.values().to_vec(),
-        nodes: Vec::new(),
+        nodes: Default::default(),
         rest_unchanged: inputs_unchanged && values.guards_hold(),
     }
 }
@@ -135,7 +145,7 @@ pub fn mark(index: usize) -> i64 {
     UNWRITTEN + index as i64
 }
 
-/// What stands at an index of the buffer for nodes before the call: neither 0 nor 255, the most
+/// What stands at an index of a buffer for nodes before the call: neither 0 nor 255, the most
 /// frequent bytes of nodes, and not what stands beside it.
 pub fn byte_mark(index: usize) -> u8 {
     0x80 + (index % 64) as u8

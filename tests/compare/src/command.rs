@@ -2,9 +2,9 @@
 
 use crate::{Case, Format, Stream};
 
-pub const USAGE: &str =
-    "usage: compare [--edition 1|2 | --files vdatum|ntv2] [--seed N] [--count N] [--progress]
-       compare [--edition 1|2 | --files vdatum|ntv2] --replay SEED:INDEX";
+pub const USAGE: &str = "usage: compare [STREAM] [--seed N] [--count N] [--progress]
+       compare [STREAM] --replay SEED:INDEX
+STREAM is --edition 1|2, --kind 1 (of edition 2, with a dense grid) or --files vdatum|ntv2";
 
 /// What the program is asked to do.
 #[derive(Clone, Debug, PartialEq, Eq)]
@@ -27,6 +27,7 @@ pub fn parse(mut words: impl Iterator<Item = String>) -> Option<Command> {
     while let Some(word) = words.next() {
         match word.as_str() {
             "--edition" => streams = vec![Stream::of_edition(words.next()?.parse().ok()?)?],
+            "--kind" => streams = vec![Stream::of_kind(words.next()?.parse().ok()?)?],
             "--files" => streams = vec![Stream::Files(Format::named(&words.next()?)?)],
             "--seed" => seed = words.next()?.parse().ok()?,
             "--count" => count = words.next()?.parse().ok()?,
@@ -72,15 +73,15 @@ mod tests {
                 progress,
             })
         };
-        let all = [Stream::EditionOne, Stream::EditionTwo, VDATUM, NTV2];
+        let all = Stream::ALL;
         assert_eq!(parsed(""), run(&all, 1, 20_000, false));
         let line = "--count 7 --progress --seed 3";
         assert_eq!(parsed(line), run(&all, 3, 7, true));
-        let second = run(&[Stream::EditionTwo], 1, 7, false);
-        assert_eq!(parsed("--edition 2 --count 7"), second);
-        let files = |format| run(&[format], 1, 7, false);
-        assert_eq!(parsed("--files vdatum --count 7"), files(VDATUM));
-        assert_eq!(parsed("--files ntv2 --count 7"), files(NTV2));
+        let alone = |stream| run(&[stream], 1, 7, false);
+        assert_eq!(parsed("--edition 2 --count 7"), alone(Stream::EditionTwo));
+        assert_eq!(parsed("--kind 1 --count 7"), alone(Stream::KindOne));
+        assert_eq!(parsed("--files vdatum --count 7"), alone(VDATUM));
+        assert_eq!(parsed("--files ntv2 --count 7"), alone(NTV2));
     }
 
     #[test]
@@ -95,6 +96,7 @@ mod tests {
         assert_eq!(parsed("--replay 3:41"), replay(Stream::EditionOne));
         let second = "--edition 2 --replay 3:41";
         assert_eq!(parsed(second), replay(Stream::EditionTwo));
+        assert_eq!(parsed("--kind 1 --replay 3:41"), replay(Stream::KindOne));
         assert_eq!(parsed("--files ntv2 --replay 3:41"), replay(NTV2));
     }
 
@@ -104,6 +106,8 @@ mod tests {
             "--count",
             "--count x",
             "--edition 3",
+            "--kind",
+            "--kind 0",
             "--files",
             "--files gtx",
             "--replay 3",

@@ -1,7 +1,40 @@
 //! What is compared: any implementation of the papers' calls, and the reference as one.
 
 use crate::{Format, Way};
-use reference::{Axis, Geometry, Notation, Number};
+use reference::{Axis, Converted, Geometry, Notation, Number};
+
+/// What the conversion of a file is lent to write to: the buffer for nodes; that for the nodes of a
+/// subgrid, which VDatum files do not have; and the geometry's numbers, six for each grid that
+/// files of the format can have.
+pub struct FileRoom<'a> {
+    pub nodes: &'a mut [u8],
+    pub dense: &'a mut [u8],
+    pub geometry: &'a mut [i64],
+}
+
+impl FileRoom<'_> {
+    pub fn buffer_lengths(&self) -> [usize; 2] {
+        [self.nodes.len(), self.dense.len()]
+    }
+
+    /// Stores what a file gives.
+    pub fn store(&mut self, grids: &[Converted]) {
+        let buffers = [&mut *self.nodes, &mut *self.dense];
+        for (buffer, grid) in buffers.into_iter().zip(grids) {
+            buffer.copy_from_slice(&grid.nodes);
+        }
+        self.store_geometry(grids);
+    }
+
+    /// South, west, latitude spacing, longitude spacing, rows and columns of each grid, and zeros
+    /// for one that the file does not have.
+    pub fn store_geometry(&mut self, grids: &[Converted]) {
+        self.geometry.fill(0);
+        for (numbers, grid) in self.geometry.chunks_exact_mut(6).zip(grids) {
+            numbers.copy_from_slice(&geometry_numbers(&grid.geometry));
+        }
+    }
+}
 
 /// The calls. Each returns the papers' number, 0 for none, and leaves what it was lent
 /// unchanged unless the call gives values.
@@ -18,14 +51,7 @@ pub trait Converter {
     /// Writes degrees, minutes, hundred-thousandths and the letter's byte.
     fn write_notation(&self, axis: Axis, nd: i64, notation: &mut [u64; 4]) -> Number;
 
-    /// Writes south, west, latitude spacing, longitude spacing, rows and columns to the geometry.
-    fn convert_file(
-        &self,
-        format: Format,
-        file: &mut [u8],
-        nodes: &mut [u8],
-        geometry: &mut [i64; 6],
-    ) -> Number;
+    fn convert_file(&self, format: Format, file: &mut [u8], room: FileRoom) -> Number;
 }
 
 /// The reference.
@@ -56,18 +82,9 @@ impl Converter for Reference {
         number_after(written, |value| *notation = fields(value))
     }
 
-    fn convert_file(
-        &self,
-        format: Format,
-        file: &mut [u8],
-        nodes: &mut [u8],
-        geometry: &mut [i64; 6],
-    ) -> Number {
-        let converted = format.convert(file, nodes.len());
-        number_after(converted, |converted| {
-            nodes.copy_from_slice(&converted.nodes);
-            *geometry = geometry_numbers(&converted.geometry);
-        })
+    fn convert_file(&self, format: Format, file: &mut [u8], mut room: FileRoom) -> Number {
+        let converted = format.convert(file, room.buffer_lengths());
+        number_after(converted, |grids| room.store(&grids))
     }
 }
 

@@ -18,7 +18,7 @@ pub struct Coverage {
     pub fixes: u64,
     /// How often each number came, of calls and of fixes in lists. At 0: calls and fixes that
     /// gave values.
-    pub numbers: [u64; 20],
+    pub numbers: [u64; 22],
     /// How often the way out answered with each count, 1 to 5. At 0: never.
     pub counts: [u64; 6],
     /// How often each cause was the only one to refuse a file.
@@ -30,14 +30,14 @@ impl Coverage {
     pub fn of(stream: Stream) -> Coverage {
         let causes = match stream {
             Stream::Files(format) => Cause::all(format),
-            Stream::EditionOne | Stream::EditionTwo => Vec::new(),
+            _ => Vec::new(),
         };
         Coverage {
             stream,
             calls: 0,
             others: 0,
             fixes: 0,
-            numbers: [0; 20],
+            numbers: [0; 22],
             counts: [0; 6],
             only_causes: causes.into_iter().map(|cause| (cause, 0)).collect(),
         }
@@ -85,7 +85,7 @@ impl Coverage {
         let numbers = numbers.map(|it| (format!("number {it}"), self.numbers[it as usize]));
         if let Stream::Files(_) = self.stream {
             let causes = self.only_causes.iter();
-            let causes = causes.map(|(cause, times)| (format!("only cause {cause:?}"), *times));
+            let causes = causes.map(|(cause, times)| (format!("only cause {cause}"), *times));
             return numbers.chain(causes).collect();
         }
         let counts = (1..self.counts.len()).map(|it| (format!("count {it}"), self.counts[it]));
@@ -106,7 +106,7 @@ impl fmt::Display for Coverage {
     fn fmt(&self, to: &mut fmt::Formatter) -> fmt::Result {
         let (stream, calls, others) = (self.stream, self.calls, self.others);
         writeln!(to, "{stream}: {calls} calls, {others} others")?;
-        if Stream::EDITIONS.contains(&stream) {
+        if Stream::IMAGES.contains(&stream) {
             writeln!(to, "{} fixes in lists", self.fixes)?;
         }
         for (words, times) in self.wanted() {

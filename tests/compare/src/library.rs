@@ -1,6 +1,6 @@
 //! The built library libmarker.a as a converter, through its C interface.
 
-use crate::{Converter, Format, Way};
+use crate::{Converter, FileRoom, Format, Way};
 use binding::{
     marker_corrections_from_ntv2, marker_grid_check, marker_heights_from_vdatum,
     marker_read_notation, marker_write_notation,
@@ -40,25 +40,25 @@ impl Converter for Library {
         unsafe { marker_write_notation(axis == Axis::Longitude, nd, notation.as_mut_ptr()) }
     }
 
-    fn convert_file(
-        &self,
-        format: Format,
-        file: &mut [u8],
-        nodes: &mut [u8],
-        geometry: &mut [i64; 6],
-    ) -> Number {
-        let call = match format {
-            Format::Vdatum => marker_heights_from_vdatum,
-            Format::Ntv2 => marker_corrections_from_ntv2,
-        };
-        unsafe {
-            call(
-                file.as_mut_ptr(),
-                file.len(),
-                nodes.as_mut_ptr(),
-                nodes.len(),
-                geometry.as_mut_ptr(),
-            )
+    fn convert_file(&self, format: Format, file: &mut [u8], room: FileRoom) -> Number {
+        let (bytes, length) = (file.as_mut_ptr(), file.len());
+        let (nodes, nodes_length) = (room.nodes.as_mut_ptr(), room.nodes.len());
+        let geometry = room.geometry.as_mut_ptr();
+        match format {
+            Format::Vdatum => unsafe {
+                marker_heights_from_vdatum(bytes, length, nodes, nodes_length, geometry)
+            },
+            Format::Ntv2 => unsafe {
+                marker_corrections_from_ntv2(
+                    bytes,
+                    length,
+                    nodes,
+                    nodes_length,
+                    room.dense.as_mut_ptr(),
+                    room.dense.len(),
+                    geometry,
+                )
+            },
         }
     }
 }

@@ -1,8 +1,8 @@
 //! How a call and a difference are shown: short enough to read, and enough to replay.
 
 use crate::call::{byte_mark, mark};
-use crate::{Call, Case, Difference, File, Outcome};
-use reference::{Trailer, TwoGridTrailer};
+use crate::{Call, Case, Cause, Difference, File, Outcome, Part};
+use reference::{DenseTrailer, Trailer, TwoGridTrailer};
 use std::fmt::{self, Display, Formatter};
 
 /// An image is shown up to so many bytes, of its end; a file too, of its beginning.
@@ -39,6 +39,9 @@ fn show_image(to: &mut Formatter, image: &[u8]) -> fmt::Result {
     let (trailer_bytes, line_bytes) = if second.is_some() { (80, 8) } else { (40, 12) };
     if let Some(trailer) = second {
         writeln!(to, "{trailer:?}")?;
+        if let Some(dense) = DenseTrailer::read(image, &trailer).filter(|_| trailer.kind == 1) {
+            writeln!(to, "{dense:?}")?;
+        }
     } else if let Some(trailer) = Trailer::read(image) {
         writeln!(to, "{trailer:?}")?;
     }
@@ -59,13 +62,13 @@ fn hexadecimal(bytes: &[u8]) -> String {
     words.join(" ")
 }
 
-/// The headers and the nodes, 16 bytes to a line.
+/// The headers and the nodes, 16 bytes to a line, and the header of a subgrid once more.
 fn show_file(to: &mut Formatter, file: &File) -> fmt::Result {
-    let (length, buffer) = (file.bytes.len(), file.buffer_length);
+    let (length, [nodes, dense]) = (file.bytes.len(), file.buffer_lengths);
     let format = file.format;
     writeln!(
         to,
-        "{format} file of {length} bytes, buffer of {buffer} bytes"
+        "{format} file of {length} bytes, buffers of {nodes} and {dense} bytes"
     )?;
     let (shown, rest) = file.bytes.split_at(length.min(SHOWN_BYTES));
     let (headers, nodes) = shown.split_at(shown.len().min(format.layout().headers));
@@ -74,6 +77,13 @@ fn show_file(to: &mut Formatter, file: &File) -> fmt::Result {
     }
     if !rest.is_empty() {
         writeln!(to, "its last {} bytes are not shown", rest.len())?;
+    }
+    let Some(header) = file.subgrid_header() else {
+        return Ok(());
+    };
+    writeln!(to, "header of the subgrid at byte {}", header.start)?;
+    for line in file.bytes[header].chunks(16) {
+        writeln!(to, "  {}", hexadecimal(line))?;
     }
     Ok(())
 }
@@ -91,7 +101,7 @@ fn show_rows(to: &mut Formatter, name: &str, numbers: &[i64], width: usize) -> f
 
 impl Outcome {
     /// What stands in the memory lent for values, five numbers to a row, and a word for each
-    /// number that the call left alone; then what stands in the buffer for nodes, four bytes to a
+    /// number that the call left alone; then what stands in the buffers for nodes, four bytes to a
     /// row.
     pub fn rows(&self) -> impl Iterator<Item = String> + '_ {
         let words = self.written.iter().enumerate().map(|(index, number)| {
@@ -110,7 +120,8 @@ impl Outcome {
     }
 
     fn node_rows(&self) -> impl Iterator<Item = String> + '_ {
-        let nodes = self.nodes.chunks(4).enumerate();
+        let buffers = self.nodes.iter();
+        let nodes = buffers.flat_map(|buffer| buffer.chunks(4).enumerate());
         nodes.map(|(index, node)| {
             let marked = |(byte, found): (usize, &u8)| *found == byte_mark(4 * index + byte);
             if node.iter().enumerate().all(marked) {
@@ -132,6 +143,16 @@ impl Display for Outcome {
             )?;
         }
         Ok(())
+    }
+}
+
+impl Display for Cause {
+    fn fmt(&self, to: &mut Formatter) -> fmt::Result {
+        write!(to, "{:?}", self.reason)?;
+        match self.part {
+            Part::First => Ok(()),
+            Part::Subgrid => write!(to, " of the subgrid"),
+        }
     }
 }
 

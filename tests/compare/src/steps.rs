@@ -23,18 +23,19 @@ pub fn points_on_the_way(image: &Image, given: Point) -> Vec<Point> {
 /// The same points, but only as far as the first one at which the stop rule holds.
 pub fn points_until_the_stop(image: &Image, given: Point) -> Vec<Point> {
     let mut points = points_on_the_way(image, given);
-    let stop = (1..points.len()).find(|n| stop_rule_holds(points[n - 1], points[*n]));
+    let distance = image.stop_distance();
+    let stop = (1..points.len()).find(|n| stop_rule_holds(distance, points[n - 1], points[*n]));
     if let Some(n) = stop {
         points.truncate(n + 1);
     }
     points
 }
 
-/// Do the two angles each differ by at most 1 nd?
-pub fn stop_rule_holds(here: Point, next: Point) -> bool {
-    let latitude = here.latitude.abs_diff(next.latitude);
-    let longitude = here.longitude.abs_diff(next.longitude);
-    latitude <= 1 && longitude <= 1
+/// Do the two angles each differ by at most the stop rule's distance?
+pub fn stop_rule_holds(distance: i128, here: Point, next: Point) -> bool {
+    let latitude = here.latitude - next.latitude;
+    let longitude = here.longitude - next.longitude;
+    latitude.abs() <= distance && longitude.abs() <= distance
 }
 
 /// The row and column of a point's cell.

@@ -9,21 +9,24 @@ use std::fmt;
 pub enum Stream {
     /// Images of edition 1, and notations.
     EditionOne,
-    /// Images of edition 2.
+    /// Images of edition 2 without a dense grid.
     EditionTwo,
+    /// Images of edition 2 with a dense grid.
+    KindOne,
     /// Files of a format.
     Files(Format),
 }
 
 impl Stream {
-    pub const ALL: [Stream; 4] = [
+    pub const ALL: [Stream; 5] = [
         Stream::EditionOne,
         Stream::EditionTwo,
+        Stream::KindOne,
         Stream::Files(Format::Vdatum),
         Stream::Files(Format::Ntv2),
     ];
     /// The streams over images.
-    pub const EDITIONS: [Stream; 2] = [Stream::EditionOne, Stream::EditionTwo];
+    pub const IMAGES: [Stream; 3] = [Stream::EditionOne, Stream::EditionTwo, Stream::KindOne];
 
     /// The stream over images of an edition.
     pub fn of_edition(edition: u32) -> Option<Stream> {
@@ -34,21 +37,27 @@ impl Stream {
         }
     }
 
+    /// The stream over images of a kind that has its own.
+    pub fn of_kind(kind: u32) -> Option<Stream> {
+        (kind == 1).then_some(Stream::KindOne)
+    }
+
     /// The call of one case.
     pub fn call(self, seed: u64, index: u64) -> Call {
         match self {
             Stream::EditionOne => cases::call(seed, index),
             Stream::EditionTwo => cases::two_grids::call(seed, index),
+            Stream::KindOne => cases::three_grids::call(seed, index),
             Stream::Files(format) => cases::files::call(format, seed, index),
         }
     }
 
-    /// Is the call one that a run of this stream counts? In edition 2's stream it must take an
-    /// image that says edition 2.
+    /// Is the call one that a run of this stream counts? In the streams of edition 2 it must take
+    /// an image that says edition 2.
     pub fn counts(self, call: &Call) -> bool {
         match self {
             Stream::EditionOne | Stream::Files(_) => true,
-            Stream::EditionTwo => {
+            Stream::EditionTwo | Stream::KindOne => {
                 let trailer = call.image().and_then(Trailer::read);
                 trailer.is_some_and(|it| it.edition == 2)
             }
@@ -56,11 +65,12 @@ impl Stream {
     }
 
     /// The numbers that a full run must meet among the calls that it counts: edition 1 knows no
-    /// 15, and edition 2's stream has no notations.
+    /// 15, the streams of edition 2 have no notations, and 20 and 21 need a dense grid.
     pub fn numbers(self) -> Vec<Number> {
         match self {
             Stream::EditionOne => (0..=14).collect(),
             Stream::EditionTwo => (0..=12).chain(14..=15).collect(),
+            Stream::KindOne => (0..=12).chain(14..=15).chain(20..=21).collect(),
             Stream::Files(format) => {
                 let refusals = format.layout().refusals;
                 [0].into_iter().chain(refusals).collect()
@@ -74,6 +84,7 @@ impl fmt::Display for Stream {
         match self {
             Stream::EditionOne => to.write_str("edition 1"),
             Stream::EditionTwo => to.write_str("edition 2"),
+            Stream::KindOne => to.write_str("kind 1"),
             Stream::Files(format) => write!(to, "files {format}"),
         }
     }

@@ -3,7 +3,9 @@
 
 mod edition_2;
 mod files;
+mod kind_1;
 mod made_up;
+mod nested;
 
 use compare::cases::values::NEAR;
 use compare::{cases, cell_of, points_on_the_way, Call, Coverage, Reference, Stream, Way};
@@ -27,13 +29,13 @@ fn every_number_count_and_cause_occurs() {
 #[test]
 fn a_run_that_met_nothing_misses_every_number_count_and_cause() {
     let missing = Stream::ALL.map(|stream| Coverage::of(stream).missing().len());
-    assert_eq!(missing, [15 + 5, 15 + 5, 3 + 36, 3 + 81]);
+    assert_eq!(missing, [15 + 5, 15 + 5, 17 + 5, 3 + 36, 3 + 144]);
 }
 
 #[test]
-fn the_streams_numbers_are_0_to_19_together() {
+fn the_streams_numbers_are_0_to_21_together() {
     let numbers: BTreeSet<Number> = Stream::ALL.into_iter().flat_map(Stream::numbers).collect();
-    assert_eq!(numbers, (0..=19).collect());
+    assert_eq!(numbers, (0..=21).collect());
 }
 
 #[test]
@@ -75,7 +77,7 @@ fn end_of_the_way(image: &Image, given: Point) -> Option<(Number, usize)> {
 
 #[test]
 fn the_way_out_meets_an_unfit_cell_and_a_bound_at_every_step() {
-    for stream in Stream::EDITIONS {
+    for stream in Stream::IMAGES {
         let mut ends = BTreeSet::new();
         for_each_point(stream, Way::Out, |image, point| {
             ends.extend(end_of_the_way(image, point));

@@ -1,10 +1,12 @@
 //! The comparison must be able to fail: it catches each planted slip within a few thousand calls,
 //! and finds no difference where there is none.
 
+mod nested;
 mod slipped;
 
-use compare::{compare, Cause, Difference, Format, Stream};
-use slipped::{FileSlip, Slip, Slipped, TwoGridSlip};
+use compare::{compare, Cause, Difference, Format, Part, Stream};
+use nested::{Fault, AXES};
+use slipped::{DenseSlip, FileSlip, Side, Slip, Slipped, SubgridSlip, TwoGridSlip};
 
 const SEED: u64 = 20_260_101;
 const FEW_THOUSAND: u64 = 4_000;
@@ -19,7 +21,11 @@ fn caught(slip: Slip) {
 }
 
 fn caught_over(stream: Stream, slip: Slip) -> Box<Difference> {
-    let compared = compare(&Slipped(slip), stream, SEED, FEW_THOUSAND, |_| {});
+    caught_within(FEW_THOUSAND, stream, slip)
+}
+
+fn caught_within(calls: u64, stream: Stream, slip: Slip) -> Box<Difference> {
+    let compared = compare(&Slipped(slip), stream, SEED, calls, |_| {});
     compared.expect_err("the slip is caught")
 }
 
@@ -28,8 +34,10 @@ fn a_converter_without_a_slip_has_no_difference() {
     for (stream, slip) in [
         (Stream::EditionOne, Slip::None),
         (Stream::EditionTwo, Slip::None),
+        (Stream::KindOne, DenseSlip::None.into()),
         (VDATUM, FileSlip::None.into()),
         (NTV2, FileSlip::None.into()),
+        (NTV2, SubgridSlip::None.into()),
     ] {
         assert!(compare(&Slipped(slip), stream, SEED, 20_000, |_| {}).is_ok());
     }
@@ -41,6 +49,7 @@ fn a_difference_is_told_with_a_case_to_replay() {
     for (stream, slip, word) in [
         (Stream::EditionOne, Slip::HeightAtTheFix, "--edition 1"),
         (Stream::EditionTwo, Slip::HeightAtTheFix, "--edition 2"),
+        (Stream::KindOne, Slip::HeightAtTheFix, "--kind 1"),
         (VDATUM, north_first, "--files vdatum"),
         (NTV2, north_first, "--files ntv2"),
     ] {
@@ -53,7 +62,7 @@ fn a_difference_is_told_with_a_case_to_replay() {
     }
 }
 
-/// What the two editions share is caught over images of edition 2 too.
+/// What the two editions share is caught over images of edition 2 too, whatever the kind.
 #[test]
 fn slips_of_either_edition_are_caught_over_edition_2() {
     for slip in [
@@ -75,16 +84,29 @@ fn slips_of_either_edition_are_caught_over_edition_2() {
         Slip::SumCutTo64Bits,
     ] {
         caught_over(Stream::EditionTwo, slip);
+        caught_over(Stream::KindOne, slip);
+    }
+}
+
+/// Each way for a dense grid to lie wrong is enough for the comparison to see that it is not asked.
+#[test]
+fn every_fault_of_a_dense_grid_that_is_not_asked_is_caught() {
+    for axis in AXES {
+        for fault in Fault::ALL {
+            caught(DenseSlip::FaultNotAsked(axis, fault).into());
+        }
     }
 }
 
 /// Each cause of a file's refusals alone is enough for the comparison to see that it is not asked:
-/// each of NTv2's labels, END among them, too.
+/// each of NTv2's labels, END among them, too. NTv2 files have 144 causes, so that it takes some
+/// calls more.
 #[test]
 fn every_cause_that_is_not_asked_is_caught() {
     for format in Format::ALL {
         for cause in Cause::all(format) {
-            caught_over(Stream::Files(format), FileSlip::NotAsked(cause).into());
+            let not_asked = FileSlip::NotAsked(cause).into();
+            caught_within(5 * FEW_THOUSAND, Stream::Files(format), not_asked);
         }
     }
 }
@@ -146,6 +168,71 @@ slips_are_caught! {
     heights_by_the_correction_limit_are_caught: TwoGridSlip::HeightsByTheCorrectionLimit;
     height_slope_by_the_correction_spacings_is_caught: TwoGridSlip::SlopeByTheCorrectionSpacings;
     slope_of_corrections_before_heights_is_caught: TwoGridSlip::SlopeBeforeHeights;
+    kind_1_unknown_is_caught: DenseSlip::KindOneUnknown;
+    kind_2_taken_for_kind_1_is_caught: DenseSlip::KindTwoTaken;
+    dense_grid_unread_is_caught: DenseSlip::DenseGridUnread;
+    thirty_six_bytes_not_asked_are_caught: DenseSlip::ThirtySixBytesNotAsked;
+    thirty_six_bytes_before_the_kind_are_caught: DenseSlip::ThirtySixBytesBeforeTheKind;
+    thirty_six_bytes_cut_to_32_bits_are_caught: DenseSlip::ThirtySixBytesCutTo32Bits;
+    thirty_six_bytes_by_the_right_back_are_caught: DenseSlip::ThirtySixBytesByTheRightBack;
+    dense_grid_after_the_others_is_caught: DenseSlip::DenseGridAfterTheOthers;
+    dense_grid_before_the_others_is_caught: DenseSlip::DenseGridBeforeTheOthers;
+    question_3_not_put_to_the_dense_grid_is_caught: DenseSlip::QuestionNotPut(3);
+    question_4_not_put_to_the_dense_grid_is_caught: DenseSlip::QuestionNotPut(4);
+    question_5_not_put_to_the_dense_grid_is_caught: DenseSlip::QuestionNotPut(5);
+    dense_back_not_asked_is_caught: DenseSlip::DenseBackNotAsked;
+    dense_back_from_the_corrections_is_caught: DenseSlip::DenseBackFromTheCorrections;
+    dense_back_from_the_beginning_is_caught: DenseSlip::DenseBackFromTheBeginning;
+    dense_back_without_the_36_bytes_is_caught: DenseSlip::DenseBackWithoutThe36;
+    dense_nodes_from_the_beginning_are_caught: DenseSlip::DenseNodesFromTheBeginning;
+    number_20_not_asked_is_caught: DenseSlip::TwentyNotAsked;
+    number_20_after_14_is_caught: DenseSlip::TwentyAfterFourteen;
+    number_20_in_the_check_alone_is_caught: DenseSlip::TwentyInTheCheckAlone;
+    number_20_before_6_is_caught: DenseSlip::TwentyBeforeSix;
+    parent_on_the_southern_dense_bound_is_caught: DenseSlip::ParentOn(Side::South);
+    parent_on_the_northern_dense_bound_is_caught: DenseSlip::ParentOn(Side::North);
+    parent_on_the_western_dense_bound_is_caught: DenseSlip::ParentOn(Side::West);
+    parent_on_the_eastern_dense_bound_is_caught: DenseSlip::ParentOn(Side::East);
+    dense_nodes_1_nd_to_the_south_are_caught: DenseSlip::DenseNodesBeside(Side::South);
+    dense_nodes_1_nd_to_the_north_are_caught: DenseSlip::DenseNodesBeside(Side::North);
+    dense_nodes_1_nd_to_the_west_are_caught: DenseSlip::DenseNodesBeside(Side::West);
+    dense_nodes_1_nd_to_the_east_are_caught: DenseSlip::DenseNodesBeside(Side::East);
+    last_dense_cell_missing_is_caught: DenseSlip::LastDenseCellMissing;
+    parent_asked_beside_the_dense_cell_is_caught: DenseSlip::ParentAskedToo;
+    parent_asked_for_the_dense_cell_is_caught: DenseSlip::ParentAskedInstead;
+    dense_latitude_not_asked_for_question_9_is_caught: DenseSlip::DenseCorrectionUnasked(0);
+    dense_longitude_not_asked_for_question_9_is_caught: DenseSlip::DenseCorrectionUnasked(1);
+    grid_chosen_by_the_fix_is_caught: DenseSlip::GridByTheFix;
+    coarse_cell_kept_on_the_border_is_caught: DenseSlip::CoarseCellKept;
+    dense_bounds_for_question_10_are_caught: DenseSlip::DenseBoundsForTen;
+    stop_distance_1_with_a_dense_grid_is_caught: DenseSlip::StopAt(1);
+    stop_distance_2_with_a_dense_grid_is_caught: DenseSlip::StopAt(2);
+    stop_distance_4_with_a_dense_grid_is_caught: DenseSlip::StopAt(4);
+    stop_distance_3_without_a_dense_grid_is_caught: DenseSlip::StopAt3Without;
+    stop_distance_by_the_point_is_caught: DenseSlip::StopByThePoint;
+    stop_distance_3_in_latitude_alone_is_caught: DenseSlip::StopInOneAngle(0);
+    stop_distance_3_in_longitude_alone_is_caught: DenseSlip::StopInOneAngle(1);
+    question_9_not_put_to_dense_nodes_is_caught: DenseSlip::NineNotAsked;
+    question_9_for_dense_nodes_after_12_is_caught: DenseSlip::NineAfterTwelve;
+    dense_slope_not_asked_is_caught: DenseSlip::SlopeNotAsked;
+    dense_slope_by_the_coarse_spacings_is_caught: DenseSlip::SlopeByTheCoarseSpacings;
+    number_21_before_12_is_caught: DenseSlip::TwentyOneBeforeTwelve;
+    number_21_before_the_dense_slope_is_caught: DenseSlip::TwentyOneBeforeTheDenseSlope;
+    number_21_not_asked_is_caught: DenseSlip::TwentyOneNotAsked;
+    border_beside_the_rounded_value_is_caught: DenseSlip::BorderBesideTheRoundedValue;
+    border_within_0_is_caught: DenseSlip::BorderWithin(0);
+    border_within_2_is_caught: DenseSlip::BorderWithin(2);
+    border_corners_not_asked_are_caught: DenseSlip::CornersNotAsked;
+    southern_border_not_asked_is_caught: DenseSlip::SideNotAsked(Side::South);
+    northern_border_not_asked_is_caught: DenseSlip::SideNotAsked(Side::North);
+    western_border_not_asked_is_caught: DenseSlip::SideNotAsked(Side::West);
+    eastern_border_not_asked_is_caught: DenseSlip::SideNotAsked(Side::East);
+    border_latitudes_not_asked_are_caught: DenseSlip::CorrectionNotAsked(0);
+    border_longitudes_not_asked_are_caught: DenseSlip::CorrectionNotAsked(1);
+    border_asked_at_coarse_nodes_alone_is_caught: DenseSlip::CoarseNodesAlone;
+    nodes_inside_the_border_asked_are_caught: DenseSlip::InnerNodesAsked;
+    dense_findings_are_caught: DenseSlip::DenseFindings;
+    larger_findings_of_both_grids_are_caught: DenseSlip::LargerFindings;
     file_rounding_toward_zero_is_caught: FileSlip::RoundedTowardZero;
     file_half_away_from_zero_is_caught: FileSlip::HalfAwayFromZero;
     file_half_to_even_is_caught: FileSlip::HalfToEven;
@@ -183,8 +270,35 @@ slips_are_caught! {
     ntv2_accuracy_for_a_shift_is_caught: FileSlip::AccuracyForShift;
     ntv2_longitude_correction_first_is_caught: FileSlip::LongitudeFirst;
     ntv2_rows_by_the_column_spacing_are_caught: FileSlip::RowsByTheColumnSpacing;
-    ntv2_parent_read_is_caught: FileSlip::ParentRead;
-    ntv2_parent_of_none_refused_is_caught: FileSlip::NoneRefused;
     ntv2_filling_of_labels_not_asked_is_caught: FileSlip::FillingNotAsked;
     ntv2_counts_of_eight_bytes_are_caught: FileSlip::LongCounts;
+    file_with_two_grids_refused_is_caught: SubgridSlip::TwoGridsRefused;
+    file_with_three_grids_taken_for_one_is_caught: SubgridSlip::ThreeGridsTaken(1);
+    file_with_three_grids_taken_for_two_is_caught: SubgridSlip::ThreeGridsTaken(2);
+    parent_of_the_first_grid_not_asked_is_caught: SubgridSlip::ParentNotAsked(Part::First);
+    parent_of_the_subgrid_not_asked_is_caught: SubgridSlip::ParentNotAsked(Part::Subgrid);
+    parent_of_the_only_grid_not_asked_is_caught: SubgridSlip::ParentOfTheOnlyGridNotAsked;
+    parent_of_the_subgrid_none_is_caught: SubgridSlip::ParentOfTheSubgridNone;
+    own_name_for_the_parents_is_caught: SubgridSlip::OwnNameForTheParents;
+    none_taken_for_a_name_is_caught: SubgridSlip::NoneTakenForAName;
+    seven_bytes_of_a_name_asked_are_caught: SubgridSlip::SevenBytesOfANameAsked;
+    names_to_their_first_space_are_caught: SubgridSlip::NamesToTheirFirstSpace;
+    names_to_their_first_zero_are_caught: SubgridSlip::NamesToTheirFirstZero;
+    names_in_any_case_are_caught: SubgridSlip::NamesInAnyCase;
+    end_between_the_grids_taken_is_caught: SubgridSlip::EndBetweenTheGridsTaken;
+    buffer_for_no_subgrid_taken_is_caught: SubgridSlip::BufferForNoSubgridTaken;
+    longer_second_buffer_taken_is_caught: SubgridSlip::LongerSecondBufferTaken;
+    buffers_swapped_are_caught: SubgridSlip::BuffersSwapped;
+    nodes_of_the_first_grid_twice_are_caught: SubgridSlip::NodesOfTheFirstGridTwice;
+    rows_by_the_first_grids_columns_are_caught: SubgridSlip::RowsByTheFirstGridsColumns;
+    shifts_of_the_subgrid_not_asked_are_caught: SubgridSlip::ShiftsNotAsked;
+    shifts_of_the_first_grid_not_asked_are_caught: SubgridSlip::ShiftsOfTheFirstGridNotAsked;
+    shifts_before_the_subgrids_header_are_caught: SubgridSlip::ShiftsBeforeTheSubgridsHeader;
+    nodes_written_before_the_subgrids_are_caught: SubgridSlip::NodesWrittenBeforeTheSubgrids;
+    geometry_written_before_the_subgrids_is_caught: SubgridSlip::GeometryWrittenBeforeTheSubgrids;
+    second_buffer_cleared_is_caught: SubgridSlip::SecondBufferCleared;
+    geometry_of_the_first_grid_twice_is_caught: SubgridSlip::GeometryOfTheFirstGridTwice;
+    geometries_swapped_are_caught: SubgridSlip::GeometriesSwapped;
+    last_six_unwritten_are_caught: SubgridSlip::LastSixUnwritten;
+    misaligned_subgrid_refused_is_caught: SubgridSlip::MisalignedRefused;
 }

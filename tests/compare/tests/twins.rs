@@ -1,19 +1,18 @@
 //! An image of edition 1 and its twin of edition 2, with the heights on the correction grid, give
-//! the same wherever question 9 lets all nodes pass.
+//! the same wherever question 9 lets all nodes pass. An image of kind 0 and its twin of kind 1, with
+//! the correction nodes as dense ones too, give the same in the check and going back.
 
-use compare::{Call, List, Outcome, Reference, Stream};
-use reference::{open_image, write_two_grids, Image, TwoGridTrailer};
+use compare::{Call, List, Outcome, Reference, Stream, Way};
+use reference::{
+    open_image, write_dense, write_two_grids, DenseTrailer, Grid, Image, TwoGridTrailer,
+};
 
 /// The twin of an image of edition 1 that opens and whose nodes all pass question 9.
 fn twin(image: &[u8]) -> Option<Vec<u8>> {
     let Ok(Image::OneGrid(grid)) = open_image(image) else {
         return None;
     };
-    let (rows, columns) = (grid.geometry.rows, grid.geometry.columns);
-    let nodes: Vec<[i32; 3]> = (0..rows)
-        .flat_map(|row| (0..columns).map(move |column| (row, column)))
-        .map(|(row, column)| grid.node(row.into(), column.into()))
-        .collect();
+    let nodes = nodes_of(&grid);
     if !nodes.iter().all(|node| grid.node_fits(node)) {
         return None;
     }
@@ -23,8 +22,34 @@ fn twin(image: &[u8]) -> Option<Vec<u8>> {
     Some(write_two_grids(&corrections, &heights, &trailer))
 }
 
+/// The twin of kind 1 of an image of kind 0 that opens: the dense grid is the whole coarse one.
+fn dense_twin(image: &[u8]) -> Option<Vec<u8>> {
+    let Ok(Image::TwoGrids {
+        corrections,
+        heights,
+        dense: None,
+    }) = open_image(image)
+    else {
+        return None;
+    };
+    let trailer = TwoGridTrailer {
+        kind: 1,
+        ..TwoGridTrailer::over(corrections.geometry, heights.geometry)
+    };
+    let nodes = nodes_of(&corrections);
+    let rest = write_two_grids(&nodes, &nodes_of(&heights), &trailer);
+    let dense_trailer = DenseTrailer::over(corrections.geometry, &trailer);
+    Some(write_dense(&nodes, &dense_trailer, &rest))
+}
+
+/// All nodes of a grid.
+fn nodes_of<const VALUES: usize>(grid: &Grid<VALUES>) -> Vec<[i32; VALUES]> {
+    let places = grid.geometry.node_places();
+    places.map(|(row, column)| grid.node(row, column)).collect()
+}
+
 /// The call over the twin of its image.
-fn over_twin(call: &Call) -> Option<Call> {
+fn over_twin(call: &Call, twin: fn(&[u8]) -> Option<Vec<u8>>) -> Option<Call> {
     let image = twin(call.image()?)?;
     match call {
         Call::GridCheck { .. } => Some(Call::GridCheck { image }),
@@ -36,16 +61,34 @@ fn over_twin(call: &Call) -> Option<Call> {
     }
 }
 
-#[test]
-fn twins_give_the_same() {
+/// Compares the reference's outcomes of calls and of the same over their images' twins.
+fn compare_twins(
+    stream: Stream,
+    twin: fn(&[u8]) -> Option<Vec<u8>>,
+    wanted: impl Fn(&Call) -> bool,
+) {
     let outcome = |call: &Call| -> Outcome { call.perform(&Reference, 0) };
     let mut compared = 0;
     for index in 0..20_000 {
-        let call = Stream::EditionOne.call(3, index);
-        if let Some(other) = over_twin(&call) {
+        let call = stream.call(3, index);
+        if let Some(other) = over_twin(&call, twin).filter(|_| wanted(&call)) {
             assert_eq!(outcome(&call), outcome(&other), "{call}");
             compared += 1;
         }
     }
     assert!(compared > 5_000, "{compared}");
+}
+
+#[test]
+fn twins_give_the_same() {
+    compare_twins(Stream::EditionOne, twin, |_| true);
+}
+
+/// Going out the stop distance differs.
+#[test]
+fn dense_twins_give_the_same_in_the_check_and_going_back() {
+    compare_twins(Stream::EditionTwo, dense_twin, |call| match call {
+        Call::List(list) => list.way == Way::Back,
+        _ => true,
+    });
 }

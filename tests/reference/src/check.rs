@@ -1,12 +1,13 @@
 //! The grid check.
 
+use crate::dense::border_agrees;
 use crate::{ask, open_image, Grid, Image, Number};
 
 /// "A and B": the largest absolute step of one value between neighbours in latitude, and in
 /// longitude.
 type Steps = [i128; 2];
 
-/// "After 1 to 6, question 9 over all nodes", then question 12. "A pass reports A and B for
+/// "After 1 to 6, question 9 over all nodes", then question 12, with a dense grid 21. "A pass reports A and B for
 /// latitude correction, longitude correction and height".
 pub fn grid_check(bytes: &[u8]) -> Result<[i128; 6], Number> {
     let steps = match open_image(bytes)? {
@@ -17,11 +18,20 @@ pub fn grid_check(bytes: &[u8]) -> Result<[i128; 6], Number> {
         Image::TwoGrids {
             corrections,
             heights,
+            dense,
         } => {
+            let dense = dense.as_ref();
             ask(all_nodes_fit(&corrections) && all_nodes_fit(&heights), 9)?;
+            ask(dense.into_iter().all(all_nodes_fit), 9)?;
             // "The slope test uses each grid's own spacings."
             let [latitude, longitude] = allowed_steps(&corrections)?;
             let [height] = allowed_steps(&heights)?;
+            if let Some(dense) = dense {
+                // "The slope test takes it too; A and B are the coarse grid's."
+                allowed_steps(dense)?;
+                // "Refusal 21, in the check after 12: the border differs."
+                ask(border_agrees(dense, &corrections), 21)?;
+            }
             [latitude, longitude, height]
         }
     };
@@ -29,13 +39,9 @@ pub fn grid_check(bytes: &[u8]) -> Result<[i128; 6], Number> {
 }
 
 fn all_nodes_fit<const VALUES: usize>(grid: &Grid<VALUES>) -> bool {
-    places(grid).all(|(row, column)| grid.node_fits(&grid.node(row, column)))
-}
-
-/// The rows and columns of all nodes.
-fn places<const VALUES: usize>(grid: &Grid<VALUES>) -> impl Iterator<Item = (i128, i128)> {
-    let (rows, columns) = (grid.geometry.rows, grid.geometry.columns);
-    (0..rows).flat_map(move |row| (0..columns).map(move |column| (row.into(), column.into())))
+    grid.geometry
+        .node_places()
+        .all(|(row, column)| grid.node_fits(&grid.node(row, column)))
 }
 
 /// A and B of each value, if question 12 allows them.
@@ -66,7 +72,8 @@ fn largest_step<const VALUES: usize>(
 ) -> i128 {
     let (rows, columns) = (grid.geometry.rows.into(), grid.geometry.columns.into());
     let at = |row, column| i128::from(grid.node(row, column)[value]);
-    places(grid)
+    grid.geometry
+        .node_places()
         .filter(|(row, column)| row + rows_on < rows && column + columns_on < columns)
         .map(|(row, column)| (at(row + rows_on, column + columns_on) - at(row, column)).abs())
         .fold(0, i128::max)

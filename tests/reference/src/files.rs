@@ -9,8 +9,8 @@ pub trait Nearest: Fn(Width, u64, Fraction) -> Option<i128> {}
 
 impl<Function: Fn(Width, u64, Fraction) -> Option<i128>> Nearest for Function {}
 
-/// What a converted file gives: the geometry, "handed back", and the height nodes or the correction
-/// nodes of an edition 2 image in bytes.
+/// What a grid of a converted file gives: the geometry, "handed back", and the height nodes or the
+/// correction nodes of an edition 2 image in bytes.
 #[derive(Clone, Debug, PartialEq, Eq)]
 pub struct Converted {
     pub geometry: Geometry,

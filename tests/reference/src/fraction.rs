@@ -25,6 +25,11 @@ impl Fraction {
         )
     }
 
+    /// Is the fraction no further than the limit from zero?
+    pub fn is_within(self, limit: i128) -> bool {
+        self.numerator.abs() <= limit * self.denominator
+    }
+
     /// "Rounded down": the largest whole number that is not above the fraction.
     pub fn rounded_down(self) -> i128 {
         self.numerator.div_euclid(self.denominator)
@@ -50,6 +55,14 @@ mod tests {
         assert_eq!(Fraction::new(7, 2).rounded_down(), 3);
         assert_eq!(Fraction::new(-7, 2).rounded_down(), -4);
         assert_eq!(Fraction::new(-8, 2).rounded_down(), -4);
+    }
+
+    #[test]
+    fn a_limit_is_on_both_sides_of_zero_and_included() {
+        for sign in [-1, 1] {
+            assert!(Fraction::new(7 * sign, 7).is_within(1));
+            assert!(!Fraction::new(8 * sign, 7).is_within(1));
+        }
     }
 
     #[test]

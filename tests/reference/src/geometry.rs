@@ -64,6 +64,12 @@ impl Geometry {
         i128::from(self.rows) * i128::from(self.columns)
     }
 
+    /// The rows and columns of all nodes.
+    pub fn node_places(&self) -> impl Iterator<Item = (i128, i128)> {
+        let (rows, columns) = (self.rows, self.columns);
+        (0..rows).flat_map(move |row| (0..columns).map(move |column| (row.into(), column.into())))
+    }
+
     /// "P and Q the latitude and longitude spacing."
     pub fn spacings(&self) -> (i128, i128) {
         (self.latitude_spacing.into(), self.longitude_spacing.into())

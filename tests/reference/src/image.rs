@@ -1,22 +1,24 @@
-//! The image of either edition: questions 1 to 6, where its nodes stand, and its writing.
+//! The image of either edition: questions 1 to 6 and 20, where its nodes stand, and its writing.
 
 use crate::grid::{CORRECTION_LIMIT, HEIGHT_LIMIT};
-use crate::{ask, Geometry, Grid, Number, Trailer, TwoGridTrailer};
+use crate::{ask, DenseTrailer, Geometry, Grid, Number, Trailer, TwoGridTrailer};
 
-/// An image that answered yes to questions 1 to 6.
+/// An image that answered yes to questions 1 to 6 and, if it has a dense grid, to 20.
 #[derive(Clone, Copy, Debug)]
 pub enum Image<'a> {
     /// Edition 1: "A node is 12 bytes: latitude correction and longitude correction (i32, nd),
     /// quasi-geoid height (i32, units)."
     OneGrid(Grid<'a, 3>),
-    /// Edition 2: "correction nodes of 8 bytes, then height nodes of 4 bytes".
+    /// Edition 2: "correction nodes of 8 bytes, then height nodes of 4 bytes". Kind 1 has dense
+    /// nodes too.
     TwoGrids {
         corrections: Grid<'a, 2>,
         heights: Grid<'a, 1>,
+        dense: Option<Grid<'a, 2>>,
     },
 }
 
-/// Questions 1 to 6, in this order.
+/// Questions 1 to 6, in this order, and "20, after 6 with the same effect".
 pub fn open_image(bytes: &[u8]) -> Result<Image<'_>, Number> {
     // "1. Is the length at least 40? Else 1."
     let trailer = Trailer::read(bytes).ok_or(1)?;
@@ -40,30 +42,58 @@ fn open_one_grid<'a>(bytes: &'a [u8], trailer: &Trailer) -> Result<Image<'a>, Nu
     }))
 }
 
-/// Edition 2's questions 1 to 6.
+/// Edition 2's questions 1 to 6, and 20.
 fn open_two_grids(bytes: &[u8]) -> Result<Image<'_>, Number> {
     // "Below 80 bytes is a 1, an unknown kind a 2."
     let trailer = TwoGridTrailer::read(bytes).ok_or(1)?;
-    ask(trailer.kind == 0, 2)?;
-    geometry_questions(&[trailer.corrections, trailer.heights])?;
+    let dense = match trailer.kind {
+        0 => None,
+        // "A length below 36 plus the correction nodes' back is a 1."
+        1 => Some(DenseTrailer::read(bytes, &trailer).ok_or(1)?),
+        _ => return Err(2),
+    };
+    let dense_geometry = dense.map(|it| it.geometry);
+    let both = [trailer.corrections, trailer.heights];
+    let geometries: Vec<Geometry> = both.into_iter().chain(dense_geometry).collect();
+    geometry_questions(&geometries)?;
     let right = trailer.right_correction_back();
-    let correction_nodes = nodes_at(bytes, trailer.correction_back, right)?;
-    let height_nodes = nodes_at(bytes, trailer.height_back, trailer.right_height_back())?;
+    let corrections = correction_grid(bytes, trailer.corrections, trailer.correction_back, right)?;
+    let heights = Grid {
+        geometry: trailer.heights,
+        nodes: nodes_at(bytes, trailer.height_back, trailer.right_height_back())?,
+        limits: [HEIGHT_LIMIT],
+    };
+    let dense =
+        dense.map(|it| correction_grid(bytes, it.geometry, it.back, it.right_back(&trailer)));
+    let dense = dense.transpose()?;
+    if let Some(dense) = &dense {
+        // "Refusal 20, after 6 with the same effect: the dense grid is misaligned or reaches
+        // outside the coarse one."
+        ask(dense.geometry.lies_aligned_in(&corrections.geometry), 20)?;
+    }
     Ok(Image::TwoGrids {
-        corrections: Grid {
-            geometry: trailer.corrections,
-            nodes: correction_nodes,
-            limits: [CORRECTION_LIMIT; 2],
-        },
-        heights: Grid {
-            geometry: trailer.heights,
-            nodes: height_nodes,
-            limits: [HEIGHT_LIMIT],
-        },
+        corrections,
+        heights,
+        dense,
     })
 }
 
-/// Questions 3 to 5: "put to both grids, the correction grid first in each".
+/// A grid of corrections, coarse or dense, after its question 6.
+fn correction_grid(
+    bytes: &[u8],
+    geometry: Geometry,
+    back: u32,
+    right_back: i128,
+) -> Result<Grid<'_, 2>, Number> {
+    Ok(Grid {
+        geometry,
+        nodes: nodes_at(bytes, back, right_back)?,
+        limits: [CORRECTION_LIMIT; 2],
+    })
+}
+
+/// Questions 3 to 5: "put to both grids, the correction grid first in each", and "come to the
+/// dense grid last in each".
 fn geometry_questions(geometries: &[Geometry]) -> Result<(), Number> {
     ask(geometries.iter().all(Geometry::counts_fit), 3)?;
     ask(geometries.iter().all(Geometry::spacings_fit), 4)?;
@@ -95,6 +125,15 @@ pub fn write_two_grids(
     let mut bytes = node_bytes(corrections);
     bytes.extend(node_bytes(heights));
     bytes.extend(trailer.write());
+    bytes
+}
+
+/// The bytes of a kind 1 image: dense nodes, their 36 bytes, and the other nodes with the trailer,
+/// which says kind 1.
+pub fn write_dense(dense: &[[i32; 2]], dense_trailer: &DenseTrailer, rest: &[u8]) -> Vec<u8> {
+    let mut bytes = node_bytes(dense);
+    bytes.extend(dense_trailer.write());
+    bytes.extend(rest);
     bytes
 }
 

@@ -1,10 +1,11 @@
-//! The independent reference: document 01, with notes 1, 2 and 4 of document 02, said once more,
+//! The independent reference: document 01, with notes 1, 2, 4 and 5 of document 02, said once more,
 //! over whole-number fractions.
 //!
 //! It shares no code and no constants with `crates/`. It is meant to be read beside the papers,
 //! not to be fast. Every public function answers either its values or the papers' number.
 
 mod check;
+mod dense;
 mod files;
 mod float;
 mod fraction;
@@ -15,6 +16,7 @@ mod lists;
 mod lookup;
 mod notation;
 mod ntv2;
+mod ntv2_file;
 mod numbers;
 mod place;
 mod trailer;
@@ -27,15 +29,16 @@ pub use float::{is_negative, nearest, turned, Exact, Width, DOUBLE, SINGLE};
 pub use fraction::Fraction;
 pub use geometry::Geometry;
 pub use grid::Grid;
-pub use image::{open_image, write_image, write_two_grids, Image};
+pub use image::{open_image, write_dense, write_image, write_two_grids, Image};
 pub use lists::{convert_list, list_back, list_out};
 pub use notation::{read_notation, write_notation, Axis, Notation};
-pub use ntv2::{
-    convert_ntv2, corrections_from_ntv2, shift_nodes, text, Record, Records, ShiftNode,
-    FROM_ARCSECONDS, LABELS,
+pub use ntv2::{convert_ntv2, corrections_from_ntv2, FROM_ARCSECONDS};
+pub use ntv2_file::{
+    shift_nodes, text, FileGrid, Labels, Ntv2File, Record, Records, ShiftNode, END_LABEL,
+    GRID_LABELS, OVERVIEW_LABELS,
 };
 pub use place::{Place, Point};
-pub use trailer::{Trailer, TwoGridTrailer};
+pub use trailer::{DenseTrailer, Trailer, TwoGridTrailer};
 pub use vdatum::{
     convert_vdatum, height_bits, heights_from_vdatum, FileHeader, FROM_DEGREES, FROM_METRES,
 };
@@ -43,7 +46,7 @@ pub use ways::{
     fix_questions, way_back, way_out, Answer, Fix, BACK_HEIGHT_LIMIT, OUT_HEIGHT_LIMIT,
 };
 
-/// The number of a question whose answer is no, 1 to 19.
+/// The number of a question whose answer is no, 1 to 21.
 pub type Number = i64;
 
 /// "An nd is 10^-9 degree": a whole degree in nd.

@@ -1,4 +1,5 @@
-//! What an image says of a point: its corrections and its height, with questions 9 and 15.
+//! What an image says of a point: its corrections and its height, with questions 9 and 15; and how
+//! near the stop rule wants two points to each other.
 
 use crate::{ask, Fraction, Geometry, Image, Number, Point};
 
@@ -33,8 +34,14 @@ impl Image<'_> {
                 let [latitude, longitude, _] = nodes.exact_values(point)?;
                 Ok([latitude, longitude])
             }
-            // "9 asks its cells for corrections".
-            Image::TwoGrids { corrections, .. } => corrections.exact_values(point),
+            // "9 asks its cells for corrections". "A lookup hands back the row bytes of either the
+            // dense or the coarse nodes, the dense ones on the dense bounds too."
+            Image::TwoGrids {
+                corrections, dense, ..
+            } => {
+                let dense_there = dense.as_ref().filter(|it| it.geometry.contains(point));
+                dense_there.unwrap_or(corrections).exact_values(point)
+            }
         }
     }
 
@@ -54,6 +61,14 @@ impl Image<'_> {
                 let [height] = heights.exact_values(point)?;
                 Ok(height)
             }
+        }
+    }
+
+    /// "At most 1 nd"; with a dense grid "the stop rule then uses 3 nd".
+    pub fn stop_distance(&self) -> i128 {
+        match self {
+            Image::TwoGrids { dense: Some(_), .. } => 3,
+            _ => 1,
         }
     }
 

@@ -1,10 +1,11 @@
-//! The trailers of the two editions.
+//! The trailers of the two editions, and of the dense nodes.
 
 use crate::numbers::{u32_at, u32_bytes};
 use crate::Geometry;
 
 const TRAILER_BYTES: usize = 40;
 const TWO_GRID_TRAILER_BYTES: usize = 80;
+const DENSE_TRAILER_BYTES: usize = 36;
 
 /// Edition 1: "The image ends in a trailer of 40 bytes: southern latitude and western longitude
 /// (i64, nd), latitude spacing, longitude spacing, rows, columns, back, edition (u32 each)."
@@ -53,7 +54,7 @@ impl Trailer {
 
 /// Edition 2: "a trailer of 80 bytes: correction geometry, height geometry (each like the old
 /// trailer's first 32 bytes), back to the correction nodes, back to the height nodes, kind (u32,
-/// only 0 for now), edition."
+/// only 0 for now), edition." Since note 5 also 1.
 #[derive(Clone, Copy, Debug, PartialEq, Eq)]
 pub struct TwoGridTrailer {
     pub corrections: Geometry,
@@ -110,5 +111,46 @@ impl TwoGridTrailer {
     /// "Correction nodes of 8 bytes, then height nodes", which touch each other too.
     pub fn right_correction_back(&self) -> i128 {
         8 * self.corrections.nodes() + self.right_height_back()
+    }
+}
+
+/// Kind 1: "dense nodes of 8 bytes, then 36 bytes (dense geometry and back to those nodes, u32)
+/// directly before the edition 2 correction nodes; backs still count from the image's end."
+#[derive(Clone, Copy, Debug, PartialEq, Eq)]
+pub struct DenseTrailer {
+    pub geometry: Geometry,
+    pub back: u32,
+}
+
+impl DenseTrailer {
+    /// The right one over a geometry, before the correction nodes of a trailer.
+    pub fn over(geometry: Geometry, trailer: &TwoGridTrailer) -> DenseTrailer {
+        let dense = DenseTrailer { geometry, back: 0 };
+        DenseTrailer {
+            back: dense.right_back(trailer) as u32,
+            ..dense
+        }
+    }
+
+    /// The 36 bytes before what the trailer says are the correction nodes, if the image has so
+    /// many.
+    pub fn read(image: &[u8], trailer: &TwoGridTrailer) -> Option<DenseTrailer> {
+        let first_correction = image.len().checked_sub(trailer.correction_back as usize)?;
+        let bytes = image[..first_correction].last_chunk::<DENSE_TRAILER_BYTES>()?;
+        Some(DenseTrailer {
+            geometry: Geometry::read(bytes),
+            back: u32_at(bytes, 32),
+        })
+    }
+
+    /// The 36 bytes.
+    pub fn write(&self) -> Vec<u8> {
+        [self.geometry.write(), u32_bytes(&[self.back])].concat()
+    }
+
+    /// From the image's end: the correction nodes and what follows them, the 36 bytes, and the
+    /// dense nodes.
+    pub fn right_back(&self, trailer: &TwoGridTrailer) -> i128 {
+        8 * self.geometry.nodes() + 36 + trailer.right_correction_back()
     }
 }

@@ -65,9 +65,10 @@ pub fn way_out(image: &Image, fix: Fix) -> Result<Answer, Number> {
         // for pk, and question 9 for its cell."
         ask(image.in_bounds(next), 10)?;
         // "The answer is the first pn, n from 1, whose two angles each differ from those of
-        // p(n−1) by at most 1 nd."
-        if within(next.latitude - previous.latitude, 1)
-            && within(next.longitude - previous.longitude, 1)
+        // p(n−1) by at most 1 nd", or 3 nd with a dense grid.
+        let distance = image.stop_distance();
+        if within(next.latitude - previous.latitude, distance)
+            && within(next.longitude - previous.longitude, distance)
         {
             // "NAP height is h minus the quasi-geoid height at pn. The evaluation count is n;
             // the height lookup is not counted." It puts question 9 for the cell of pn, in

@@ -57,7 +57,7 @@ fn lengths() {
 fn editions_and_kinds() {
     assert_eq!(with(&[(EDITION, 0)]), 2);
     assert_eq!(with(&[(EDITION, 3)]), 2);
-    assert_eq!(with(&[(KIND, 1)]), 2);
+    assert_eq!(with(&[(KIND, 2)]), 2);
 }
 
 /// Each question is put to the corrections and then to the heights before the next one.

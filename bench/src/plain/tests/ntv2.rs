@@ -1,12 +1,16 @@
 //! Figures of NTv2 files: what shifts and angles become, in which order, and which are refused.
 
 use crate::plain::corrections_from_ntv2;
+use crate::FileRoom;
 
 /// Two headers, 6 nodes and the record END.
 const FILE_BYTES: usize = 352 + 6 * 16 + 16;
 
 /// Bytes of the angles' values: S_LAT, N_LAT, E_LONG, W_LONG, LAT_INC and LONG_INC.
 pub const ANGLES: [usize; 6] = [248, 264, 280, 296, 312, 328];
+
+/// Bytes of the grid's PARENT.
+pub const PARENT: usize = 200;
 
 /// What is not read.
 const UNREAD: u8 = 0xFF;
@@ -26,6 +30,7 @@ pub fn file_of(shifts: [[u32; 2]; 6]) -> [u8; FILE_BYTES] {
         put_count(&mut file, at, count);
     }
     file[56..64].copy_from_slice(b"SECONDS ");
+    file[PARENT..PARENT + 8].copy_from_slice(b"NONE    ");
     let seconds = [187_200.0, 187_236.0, -18_090.0, -18_000.0, 36.0, 45.0];
     for (at, seconds) in ANGLES.into_iter().zip(seconds) {
         put_angle(&mut file, at, seconds);
@@ -47,21 +52,37 @@ pub fn put_count(file: &mut [u8], at: usize, count: i32) {
     file[at..at + 4].copy_from_slice(&count.to_le_bytes());
 }
 
-/// The corrections and the geometry of a file, or its number, after which nodes and geometry are as
-/// they were.
-pub fn converted(file: &[u8], nodes_length: usize) -> Result<(Vec<i32>, [i64; 6]), i64> {
-    let (mut nodes, mut geometry) = (vec![0xEE; nodes_length], [-7; 6]);
-    match corrections_from_ntv2(file, &mut nodes, &mut geometry) {
-        0 => {
-            let numbers = nodes.chunks_exact(4);
-            let numbers = numbers.map(|it| i32::from_le_bytes(it.try_into().expect("four bytes")));
-            Ok((numbers.collect(), geometry))
-        }
-        number => {
-            assert!(nodes.iter().all(|byte| *byte == 0xEE) && geometry == [-7; 6]);
-            Err(number)
-        }
+/// The corrections in both buffers.
+pub type Corrections = [Vec<i32>; 2];
+
+/// The corrections in both buffers and the geometry of a file, or its number, after which nodes and
+/// geometry are as they were.
+pub fn both_converted(file: &[u8], lengths: [usize; 2]) -> Result<(Corrections, [i64; 12]), i64> {
+    let [mut nodes, mut dense] = lengths.map(|it| vec![0xEE; it]);
+    let mut geometry = [-7; 12];
+    let room = FileRoom {
+        nodes: &mut nodes,
+        dense: &mut dense,
+        geometry: &mut geometry,
+    };
+    let number = corrections_from_ntv2(file, room);
+    if number != 0 {
+        let mut bytes = nodes.iter().chain(&dense);
+        assert!(bytes.all(|byte| *byte == 0xEE) && geometry == [-7; 12]);
+        return Err(number);
     }
+    let number = |it: &[u8]| i32::from_le_bytes(it.try_into().expect("four bytes"));
+    let numbers = [nodes, dense].map(|it| it.chunks_exact(4).map(number).collect());
+    Ok((numbers, geometry))
+}
+
+/// The same of a file with one grid, without the second buffer and the last six numbers, which are
+/// zeros.
+pub fn converted(file: &[u8], nodes_length: usize) -> Result<(Vec<i32>, [i64; 6]), i64> {
+    let ([numbers, _], geometry) = both_converted(file, [nodes_length, 0])?;
+    let [south, west, p, q, rows, columns, rest @ ..] = geometry;
+    assert_eq!(rest, [0; 6]);
+    Ok((numbers, [south, west, p, q, rows, columns]))
 }
 
 /// What a latitude shift and a longitude shift with these bits become, in nd, or their numbers.

@@ -1,6 +1,6 @@
 //! Files and buffers that are refused with 18, and that 18 comes before 19.
 
-use super::ntv2::{converted, file_of, put_angle, put_count, ANGLES};
+use super::ntv2::{converted, file_of, put_angle, put_count, ANGLES, PARENT};
 
 /// Shifts that 19 refuses.
 const NO_SHIFTS: [[u32; 2]; 6] = [[0x7FC0_0000; 2]; 6];
@@ -22,7 +22,7 @@ fn with_angles(angles: &[(usize, f64)]) -> Option<i64> {
 }
 
 #[test]
-fn labels_and_the_type() {
+fn labels_the_type_and_the_parent() {
     assert_eq!(with(|_| ()), Some(19));
     let end = 352 + 6 * 16;
     for record in (0..352).step_by(16).chain([end]) {
@@ -30,7 +30,7 @@ fn labels_and_the_type() {
             assert_eq!(with(|file| file[at] ^= 0x20), Some(18), "byte {at}");
         }
     }
-    for at in 56..64 {
+    for at in (56..64).chain(PARENT..PARENT + 8) {
         assert_eq!(with(|file| file[at] ^= 0x20), Some(18), "byte {at}");
     }
 }
@@ -46,7 +46,8 @@ fn counts() {
 
 #[test]
 fn values_that_are_not_read() {
-    let of_records = (4..15).flat_map(|record| 16 * record + 8..16 * record + 16);
+    let of_records = (4..15).filter(|record| *record != 12);
+    let of_records = of_records.flat_map(|record| 16 * record + 8..16 * record + 16);
     let of_counts = [12, 28, 44, 348].into_iter().flat_map(|at| at..at + 4);
     let of_nodes = (0..6).flat_map(|node| 360 + 16 * node..368 + 16 * node);
     let of_end = 352 + 6 * 16 + 8..352 + 7 * 16;

@@ -1,6 +1,7 @@
 //! Figures of VDatum files: what heights and angles become, and which are refused.
 
 use crate::plain::heights_from_vdatum;
+use crate::FileRoom;
 
 /// The header and 6 heights.
 const FILE_BYTES: usize = 40 + 6 * 4;
@@ -26,16 +27,22 @@ pub fn put_angle(file: &mut [u8], place: usize, degrees: f64) {
 
 /// The nodes and the geometry of a file, or its number, after which both are as they were.
 pub fn converted(file: &[u8], nodes_length: usize) -> Result<(Vec<i32>, [i64; 6]), i64> {
-    let (mut nodes, mut geometry) = (vec![0xEE; nodes_length], [-7; 6]);
-    match heights_from_vdatum(file, &mut nodes, &mut geometry) {
+    let (mut nodes, mut geometry) = (vec![0xEE; nodes_length], [-7; 12]);
+    let room = FileRoom {
+        nodes: &mut nodes,
+        dense: &mut [],
+        geometry: &mut geometry,
+    };
+    match heights_from_vdatum(file, room) {
         0 => {
             let nodes = nodes.chunks_exact(4);
             let heights =
                 nodes.map(|node| i32::from_le_bytes(node.try_into().expect("four bytes")));
-            Ok((heights.collect(), geometry))
+            let [south, west, p, q, rows, columns, ..] = geometry;
+            Ok((heights.collect(), [south, west, p, q, rows, columns]))
         }
         number => {
-            assert!(nodes.iter().all(|byte| *byte == 0xEE) && geometry == [-7; 6]);
+            assert!(nodes.iter().all(|byte| *byte == 0xEE) && geometry == [-7; 12]);
             Err(number)
         }
     }

@@ -10,7 +10,7 @@ use Rattle.rules.specs.Image.{Grid, gridOf}
 use Rattle.rules.specs.Ways.{Source, sourceOf, back}
 use Rattle.rules.proofs.Cells.{point-within}
 use Rattle.lookup.specs.Held.{pointLookupOf}
-use Rattle.lookup.proofs.Found.{bounded, found-within}
+use Rattle.lookup.proofs.Found.{found-within}
 use Rattle.source.specs.Asked.{pointLookup}
 use Rattle.source.proofs.Sources.{both-found, both-refused, height-within}
 use borrow.Author.Needs.{needs}
@@ -48,11 +48,10 @@ added-requires : tie.Need-added-requires
 added-requires c κs =
     let v = c .before .before .before in
     let s = begun v in
-    let o = s .pre .0 in
-    let g = o .layout .latitude .geometry in (
-      point-within _ (s .args .q) g (o .point),
+    let o = s .pre .0 in (
+      point-within _ (s .args .q) (o .layout .latitude .geometry) (o .point),
       rw (toZ-ofZ (s .fits .height)) (s .pre .1),
-      found-within (grid s) (s .args .q) _ (bounded g (o .point)) (found v .0),
+      found-within (now (s .args .image)) (s .args .l) (s .args .q) _ o (found v .0),
       rw (read c) (height-within _ o (found v .1)),
     )
 

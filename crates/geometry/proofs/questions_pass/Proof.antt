@@ -3,16 +3,13 @@ use mathlib.Core.Path.{sym, _∙_}
 use borrow.Author.Needs.{needs}
 use Rattle.integers.specs.Booleans.{and-next, and-stop}
 use Rattle.rules.specs.Questions.{questions3To5}
-use Rattle.rules.proofs.Opening.{latitude-sized, longitude-sized}
 use Rattle.geometry.proofs.questions_pass.Statement.{statement}
 use Rattle.geometry.proofs.questions_pass.Tie as tie
 
 bounds-pass-requires : tie.Need-bounds-pass-requires
 bounds-pass-requires c κs =
     let s = c .before in
-    let counts = sym (s .before .before .counts-pass .ensures) ∙ s .before .if1 .taken in
-    let spacings = sym (s .spacings-pass .ensures) ∙ c .if2 .taken in
-    (latitude-sized _ counts spacings, longitude-sized _ counts spacings)
+    (sym (s .before .before .counts-pass .ensures) ∙ s .before .if1 .taken, sym (s .spacings-pass .ensures) ∙ c .if2 .taken)
 
 returns : tie.Need-returns
 unfolding questions3To5

@@ -1,78 +1,122 @@
--- `grids::correction_cell` meets its contract: question 9 as its test answered, of the corners of the point's cell.
+-- `grids::correction_cell` meets its contract: question 9 as its test answered, of the corners of the point's cell on the grid that its
+-- corrections are taken from.
 use mathlib.Core.Bool.{Bool, _&&_}
 use mathlib.Core.Path.{_≡_, sym, ap, _∙_}
 use borrow.Author.Tests.{not-true, not-false}
 use denote.Ref.{now}
-use Rattle.rules.specs.declared.Square.{Square}
+use Rattle.rules.specs.declared.Geometry.{Geometry}
 use Rattle.rules.specs.Units.{correctionLimit}
-use Rattle.rules.specs.Answers.{values}
-use Rattle.rules.specs.Image.{plane}
-use Rattle.rules.specs.Bilinear.{cornersFor}
+use Rattle.rules.specs.Answers.{Outcome, values}
+use Rattle.rules.specs.Image.{plane, gridOf}
 use Rattle.rules.specs.Lookup.{squarePasses}
-use Rattle.lookup.specs.Held.{Bounded}
-use Rattle.grids.specs.Grids.{correctionCell}
-use Rattle.lookup.proofs.Found.{bounded}
+use Rattle.lookup.specs.Held.{spacingsOf, cellPlace}
+use Rattle.lookup.proofs.Covering.{Serves}
 use Rattle.lookup.proofs.Places.{cell-inside}
+use Rattle.grids.specs.declared.CorrectionSquares.{CorrectionSquares}
+use Rattle.grids.specs.declared.CorrectionCorners.{CorrectionCorners}
+use Rattle.grids.specs.Grids.{latitudePlane, longitudePlane, squaresAt, correctionCell, correctionCellFor}
+use Rattle.grids.proofs.Chosen.{chosen, cell-chosen, chosen-serves}
 use borrow.Author.Needs.{needs}
 use Rattle.grids.proofs.correction_cell.Statement.{statement}
 use Rattle.grids.proofs.correction_cell.Tie as tie
 
-abbrev start : tie.After-cell-of → tie.Start
-start c = c .before .before .before
+abbrev start : tie.After-is-taken-dense → tie.Start
+start c = c .before .before
 
-in-bounds : (s : tie.Start) → Bounded (s .args .latitude .geometry) (s .args .p)
-in-bounds s = bounded (s .pre .0 .geometry) (s .pre .3)
+-- the grid that serves the point, and the point's cell there
+abbrev dense : tie.After-is-taken-dense → Bool
+dense c = c .is-taken-dense .result
 
-corners-at-requires : tie.Need-corners-at-requires
-corners-at-requires c κs = let s = start c in (s .pre .0, cell-inside (in-bounds s) (c .cell-of .ensures))
+abbrev geometry : tie.After-is-taken-dense → Geometry
+geometry c = latitudePlane (start c .args .l) (dense c) .geometry
 
-corners-at-requires-2 : tie.Need-corners-at-requires-2
-corners-at-requires-2 c κs =
-    let t = c .before in
-    let s = start t in
-    (s .pre .1, rw (s .pre .2) (cell-inside (in-bounds s) (t .cell-of .ensures)))
+serving : (c : tie.After-is-taken-dense) → let s = start c .args in Serves (s .l .latitude .geometry) (geometry c) (s .p)
+serving c =
+    let s = start c in
+    chosen-serves (now (s .args .image)) (s .args .l) (s .args .p) (dense c) (s .pre) (c .is-taken-dense .ensures)
 
--- each value's corners are those of the point's cell
-abbrev northOf : tie.Start → Square
-northOf s = cornersFor (s .args .latitude .geometry) (plane (now (s .args .image)) (s .args .latitude)) (s .args .p)
+cell-of-requires : tie.Need-cell-of-requires
+cell-of-requires c κs = rw (c .geometry-for .ensures) (serving (c .before) .bounded)
 
-abbrev eastOf : tie.Start → Square
-eastOf s = cornersFor (s .args .latitude .geometry) (plane (now (s .args .image)) (s .args .longitude)) (s .args .p)
+abbrev chose : tie.After-cell-of → tie.After-is-taken-dense
+chose c = c .before .before
 
-north : (c : tie.After-corners-at) → c .corners-at .result ≡ northOf (start (c .before))
-north c = rw (c .before .cell-of .ensures) at (c .corners-at .ensures)
+cell : (c : tie.After-cell-of) → c .cell-of .result ≡ cellPlace (geometry (chose c)) (start (chose c) .args .p)
+cell c = c .cell-of .ensures ∙ (λ i. cellPlace (c .before .geometry-for .ensures i) (start (chose c) .args .p))
 
-east : (c : tie.After-corners-at2) → c .corners-at2 .result ≡ eastOf (start (c .before .before))
-east c = rw (c .before .before .cell-of .ensures) at (c .corners-at2 .ensures)
+corrections-at-requires : tie.Need-corrections-at-requires
+corrections-at-requires c κs = (start (chose c) .pre .layout, cell-inside (serving (chose c) .bounded) (cell c))
 
--- question 9, of both
-abbrev asked : Square → Square → Bool
-asked a b = squarePasses correctionLimit a && squarePasses correctionLimit b
+-- its corners, and question 9 of them
+abbrev squaresOf : tie.After-is-taken-dense → CorrectionSquares
+squaresOf c =
+    let s = start c .args in
+    let b = now (s .image) in
+    let at = cellPlace (geometry c) (s .p) in
+    squaresAt (plane b (latitudePlane (s .l) (dense c))) (plane b (longitudePlane (s .l) (dense c))) (at .row) (at .column)
 
-question9-is : (c : tie.After-corrections-pass) → let s = start (c .before .before .before) in
-    c .corrections-pass .result ≡ asked (northOf s) (eastOf s)
-question9-is c = c .corrections-pass .ensures ∙ (λ i. asked (north (c .before .before) i) (east (c .before) i))
+squares : (c : tie.After-corrections-at) → c .corrections-at .result ≡ squaresOf (chose (c .before))
+squares c =
+    let k = c .before in
+    let s = start (chose k) .args in
+    let b = now (s .image) in
+    let at = cell k in
+    let f = plane b (latitudePlane (s .l) (dense (chose k))) in
+    let h = plane b (longitudePlane (s .l) (dense (chose k))) in
+    c .corrections-at .ensures ∙ (λ i. squaresAt f h (at i .row) (at i .column))
+
+abbrev passes : CorrectionSquares → Bool
+passes c = squarePasses correctionLimit (c .latitude) && squarePasses correctionLimit (c .longitude)
+
+abbrev read : tie.After-corrections-pass → tie.After-corrections-at
+read c = c .before .before .before
+
+question9-is : (c : tie.After-corrections-pass) → c .corrections-pass .result ≡ passes (squaresOf (chose (read c .before)))
+question9-is c = c .corrections-pass .ensures ∙ ap passes (squares (read c))
+
+-- the rule, by the planes that were chosen
+rule : (c : tie.After-is-taken-dense) → let s = start c .args in
+    let b = now (s .image) in
+    correctionCell (geometry c) (plane b (latitudePlane (s .l) (dense c))) (plane b (longitudePlane (s .l) (dense c))) (s .p)
+    ≡ correctionCellFor (gridOf b (s .l)) (s .p)
+unfolding correctionCellFor
+rule c =
+    let s = start c .args in
+    let b = now (s .image) in
+    cell-chosen b (s .l) (s .p) (dense c)
+    ∙ (λ i. let k = chosen b (s .l) (c .is-taken-dense .ensures i) in correctionCell (k .corrections) (k .latitude) (k .longitude) (s .p))
 
 returns : tie.Need-returns
 unfolding correctionCell
-returns c = rw (sym (question9-is (c .before)) ∙ not-true _ (c .if1 .taken))
+returns c =
+    let k = c .before in
+    rw (← rule (chose (read k .before)), sym (question9-is k) ∙ not-true _ (c .if1 .taken))
 
 returns-2 : tie.Need-returns-2
 unfolding correctionCell
 returns-2 c =
-    let e = c .before in
+    let e = c .before .before in
     let k = e .before in
-    let t = k .before .before .before in
-    rw (sym (question9-is k) ∙ not-false _ (e .if1 .left))
-    (ap values (λ i. record { latitude = north (k .before .before) i; longitude = east (k .before) i; at = t .cell-of .ensures i .at }))
+    let r = read k in
+    let t = r .before in
+    let spacings = c .spacings-of .ensures ∙ ap spacingsOf (t .before .geometry-for .ensures) in
+    let corners : _≡_ {A = CorrectionCorners} _ _ = λ i. record {
+      latitude = squares r i .latitude;
+      longitude = squares r i .longitude;
+      spacings = spacings i;
+      at = cell t i .at;
+    } in
+    rw (← rule (chose t), sym (question9-is k) ∙ not-false _ (e .if1 .left)) (ap values corners)
 
 pub correction-cell-spec : {M : Type 1} → statement M
 correction-cell-spec =
     tie.close
     (tie.spec
-    (λ c κs. in-bounds (c .before .before))
-    corners-at-requires
-    corners-at-requires-2
+    (λ c κs. search needs)
+    (λ c κs. search needs)
+    cell-of-requires
+    corrections-at-requires
     (λ c κs. search needs)
     returns
+    (λ c κs. search needs)
     returns-2)

@@ -6,7 +6,7 @@ use Rattle.grids.proofs.height_between.Statement.{statement}
 use Rattle.grids.proofs.height_between.Tie as tie
 
 value-between-requires : tie.Need-value-between-requires
-value-between-requires c κs = let h = c .before .before .pre in (heights-within (h .height-within), h .place)
+value-between-requires c κs = let h = c .before .before .before .pre in (heights-within (h .height-within), h .place)
 
 pub height-between-spec : {M : Type 1} → statement M
 height-between-spec = tie.close (tie.spec value-between-requires (λ c. told w64 (c .value-between .ok) (c .value-between .ensures)))

@@ -10,7 +10,6 @@ use Rattle.rules.specs.Bilinear.{cornersFor}
 use Rattle.rules.specs.Lookup.{inside, squarePasses}
 use Rattle.lookup.specs.Held.{Bounded}
 use Rattle.grids.specs.Grids.{heightCell}
-use Rattle.lookup.proofs.Found.{bounded}
 use Rattle.lookup.proofs.Places.{cell-inside}
 use borrow.Author.Needs.{needs}
 use Rattle.grids.proofs.height_cell.Statement.{statement}
@@ -24,7 +23,7 @@ on-grid : (c : tie.Else1) → let s = start c .args in inside (s .p .geometry) (
 on-grid c = sym (c .before .in-bounds .ensures) ∙ not-false _ (c .if1 .left)
 
 in-bounds : (c : tie.Else1) → let s = start c .args in Bounded (s .p .geometry) (s .q)
-in-bounds c = bounded (start c .pre .geometry) (on-grid c)
+in-bounds c = record { geometry = start c .pre .geometry; point = on-grid c }
 
 returns : tie.Need-returns
 unfolding heightCell
@@ -54,10 +53,10 @@ returns-2 c =
 returns-3 : tie.Need-returns-3
 unfolding heightCell
 returns-3 c =
-    let e = c .before in
+    let e = c .before .before in
     let k = e .before .before in
     rw (on-grid (placed k), sym (asked (e .before)) ∙ not-false _ (e .if2 .left))
-    (ap values (λ i. record { height = corners k i; at = k .before .cell-of .ensures i .at }))
+    (ap values (λ i. record { height = corners k i; spacings = c .spacings-of .ensures i; at = k .before .cell-of .ensures i .at }))
 
 pub height-cell-spec : {M : Type 1} → statement M
 height-cell-spec =
@@ -69,4 +68,5 @@ height-cell-spec =
     corners-at-requires
     (λ c κs. search needs)
     returns-2
+    (λ c κs. search needs)
     returns-3)

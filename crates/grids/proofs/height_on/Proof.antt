@@ -5,8 +5,7 @@ use mir.Syntax.{w64}
 use Rattle.integers.specs.Machine.{told}
 use Rattle.rules.specs.Answers.{values, andThen}
 use Rattle.rules.specs.Image.{plane}
-use Rattle.lookup.specs.Held.{valueIn}
-use Rattle.grids.specs.Grids.{heightCell, heightCellOf, heightOn}
+use Rattle.grids.specs.Grids.{heightCell, heightCellOf, heightBetween, heightOn}
 use Rattle.grids.proofs.OnGrids.{heights-weighed, height-weighed}
 use borrow.Author.Needs.{needs}
 use Rattle.grids.proofs.height_on.Statement.{statement}
@@ -32,7 +31,7 @@ height-between-requires c κs =
 -- the lookup is what is weighed between them
 weighed : (s : tie.Start) → let g = s .args .p .geometry in
     let f = plane (now (s .args .image)) (s .args .p) in
-    andThen (heightCell g f (s .args .q)) (λ h. values (valueIn (h .height) g (h .at))) ≡ heightOn g f (s .args .q)
+    andThen (heightCell g f (s .args .q)) (λ h. values (heightBetween h)) ≡ heightOn g f (s .args .q)
 weighed s = height-weighed _ _ _
 
 returns : tie.Need-returns

@@ -3,7 +3,9 @@ use mathlib.Core.Path.{_≡_, sym, ap, _∙_}
 use denote.Ref.{now}
 use Rattle.rules.specs.Answers.{values}
 use Rattle.rules.specs.Image.{Grid, gridOf}
-use Rattle.grids.specs.Grids.{correctionCell, correctionCellOf, heightCell, heightCellOf, gridsLookup}
+use Rattle.rules.specs.Lookup.{gridFor}
+use Rattle.lookup.proofs.Covering.{serves}
+use Rattle.grids.specs.Grids.{correctionCellFor, correctionCellOf, heightCell, heightCellOf, gridsLookup}
 use Rattle.grids.proofs.OnGrids.{corrections-weighed, heights-weighed}
 use borrow.Author.Needs.{needs}
 use Rattle.grids.proofs.look_up_grids.Statement.{statement}
@@ -15,23 +17,16 @@ grid s = gridOf (now (s .args .image)) (s .args .l)
 abbrev start : tie.After-correction-cell → tie.Start
 start c = c .before .before
 
-correction-cell-requires : tie.Need-correction-cell-requires
-correction-cell-requires c κs =
-    let o = c .before .pre in
-    (o .0 .latitude, o .0 .longitude, o .0 .longitude-geometry, o .1)
-
 -- the corners of the corrections
 corrections : (c : tie.After-correction-cell) → let s = start c in
-    let g = grid s in
-    correctionCell (g .corrections) (g .latitude) (g .longitude) (s .args .p) ≡ correctionCellOf (c .correction-cell .result)
+    correctionCellFor (grid s) (s .args .p) ≡ correctionCellOf (c .correction-cell .result)
 corrections c = sym (c .correction-cell .ensures)
 
 abbrev begun : tie.After-c → tie.Start
 begun c = start (c .before .before)
 
 corrected : (c : tie.After-c) → let s = begun c in
-    let g = grid s in
-    correctionCell (g .corrections) (g .latitude) (g .longitude) (s .args .p) ≡ values (c .c .given .0 .0)
+    correctionCellFor (grid s) (s .args .p) ≡ values (c .c .given .0 .0)
 corrected c = corrections (c .before .before) ∙ ap correctionCellOf (c .c .given .1)
 
 -- and of the heights
@@ -41,14 +36,16 @@ heights : (c : tie.After-height-cell) → let s = begun (c .before .before) in
 heights c = sym (c .height-cell .ensures)
 
 values-on-requires : tie.Need-values-on-requires
+unfolding correctionCellFor
 values-on-requires c κs =
     let h = c .before in
     let k = h .before .before in
     let s = begun (k .before .before) in
     let g = grid s in
-    let c = corrected (k .before .before) in (
-      corrections-weighed (g .latitude) (g .longitude) (s .args .p) (s .pre .0 .latitude .geometry) (s .pre .1) c,
-      heights-weighed (g .height) (s .args .p) (s .pre .0 .height .geometry) (heights k ∙ ap heightCellOf (h .h .given .1)),
+    let f = gridFor g (s .args .p) in
+    let b = serves (now (s .args .image)) (s .args .l) (s .args .p) (s .pre) .bounded in (
+      corrections-weighed (f .latitude) (f .longitude) b (corrected (k .before .before)),
+      heights-weighed (g .height) (s .args .p) (s .pre .layout .height .geometry) (heights k ∙ ap heightCellOf (h .h .given .1)),
     )
 
 returns : tie.Need-returns
@@ -73,7 +70,7 @@ pub look-up-grids-spec : {M : Type 1} → statement M
 look-up-grids-spec =
     tie.close
     (tie.spec
-    correction-cell-requires
+    (λ c κs. search needs)
     (λ c. search needs)
     (λ c κs. search needs)
     (λ c. search needs)

@@ -6,7 +6,7 @@ use native.Mathlib.Omega.{arith}
 use Rattle.rules.specs.Image.{backOf}
 use Rattle.rules.specs.Questions.{question6}
 use Rattle.rules.proofs.Opening.{back-is}
-use Rattle.image.specs.Verdict.{planeAt}
+use Rattle.image.specs.Planes.{planeAt}
 use borrow.Author.Needs.{needs}
 use Rattle.image.proofs.nodes_layout.Statement.{statement}
 use Rattle.image.proofs.nodes_layout.Tie as tie
@@ -34,7 +34,14 @@ returns c =
     let latitude = a .plane-at .ensures ∙ (λ i. planeAt g (s .args .size - back-of s .0 i) 12) in
     let longitude = o .plane-at2 .ensures ∙ (λ i. planeAt g (first 4 i) 12) in
     let height = c .plane-at3 .ensures ∙ (λ i. planeAt g (first 8 i) 12) in
-    λ i. record { separate = false; latitude = latitude i; longitude = longitude i; height = height i }
+    λ i. record {
+      separate = false;
+      nested = false;
+      latitude = latitude i;
+      longitude = longitude i;
+      height = height i;
+      dense = latitude i;
+    }
 
 pub nodes-layout-spec : {M : Type 1} → statement M
 nodes-layout-spec =

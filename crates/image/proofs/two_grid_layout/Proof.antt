@@ -1,10 +1,10 @@
 -- `image::two_grid_layout` meets its contract: question 6 says what each back is, so where the first nodes begin.
-use mathlib.Core.Bool.{true}
-use mathlib.Core.Path.{_≡_, _∙_}
+use mathlib.Core.Bool.{true, false}
+use mathlib.Core.Path.{_∙_}
 use Prim.Native.Nat.{_+_, _-_}
 use native.Mathlib.Omega.{arith}
 use Rattle.rules.proofs.Opening.{backs-are}
-use Rattle.image.specs.Verdict.{planeAt}
+use Rattle.image.specs.Planes.{planeAt}
 use borrow.Author.Needs.{needs}
 use Rattle.image.proofs.two_grid_layout.Statement.{statement}
 use Rattle.image.proofs.two_grid_layout.Tie as tie
@@ -29,7 +29,14 @@ returns c =
     let latitude = a .plane-at .ensures ∙ (λ i. planeAt g (size - backs .0 .0 i) 8) in
     let longitude = o .plane-at2 .ensures ∙ (λ i. planeAt g (size - backs .0 .0 i + 4) 8) in
     let height = c .plane-at3 .ensures ∙ (λ i. planeAt (s .args .t .heights .geometry) (size - backs .1 .0 i) 4) in
-    λ i. record { separate = true; latitude = latitude i; longitude = longitude i; height = height i }
+    λ i. record {
+      separate = true;
+      nested = false;
+      latitude = latitude i;
+      longitude = longitude i;
+      height = height i;
+      dense = latitude i;
+    }
 
 pub two-grid-layout-spec : {M : Type 1} → statement M
 two-grid-layout-spec =

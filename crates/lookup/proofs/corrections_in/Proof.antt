@@ -8,8 +8,8 @@ use borrow.Author.Needs.{needs}
 use Rattle.lookup.proofs.corrections_in.Statement.{statement}
 use Rattle.lookup.proofs.corrections_in.Tie as tie
 
-abbrev placed : tie.After-b → tie.After-place-in
-placed c = c .before .before
+abbrev placed : tie.After-spacings → tie.After-place-in
+placed c = c .before .before .before .before
 
 value-between-requires : tie.Need-value-between-requires
 value-between-requires c κs =
@@ -29,8 +29,10 @@ returns c =
     let t = placed (m .before) in
     let s = t .before .args in
     let at = t .place-in .ensures in
-    let latitude = told w64 (m .value-between .ok) (m .value-between .ensures ∙ (λ i. valueIn (s .h .latitude) (s .g) (at i))) in
-    let longitude = told w64 (c .value-between2 .ok) (c .value-between2 .ensures ∙ (λ i. valueIn (s .h .longitude) (s .g) (at i))) in
+    let latitude = told w64 (m .value-between .ok)
+    (m .value-between .ensures ∙ (λ i. valueIn (s .h .corners .latitude) (s .h .spacings) (at i))) in
+    let longitude = told w64 (c .value-between2 .ok)
+    (c .value-between2 .ensures ∙ (λ i. valueIn (s .h .corners .longitude) (s .h .spacings) (at i))) in
     λ i. record { latitude = latitude i; longitude = longitude i }
 
 pub corrections-in-spec : {M : Type 1} → statement M

@@ -28,40 +28,41 @@ passes c = not-false _ (c .if1 .left)
 abbrev passed : tie.After-place-in → tie.Else1
 passed t = t .before
 
-within : (t : tie.After-place-in) → CornersWithin correctionLimit (start (passed t) .args .h .height)
+within : (t : tie.After-place-in) → CornersWithin correctionLimit (start (passed t) .args .h .corners .height)
 within t = let e = passed t in heights-within (passing (start e .pre) (passes e) .height)
 
-place : (t : tie.After-place-in) → InCellOf (start (passed t) .args .g) (t .place-in .result)
-place t = let s = start (passed t) in subst (InCellOf (s .args .g)) (sym (t .place-in .ensures)) (s .pre .place)
+place : (t : tie.After-place-in) → InCellOf (start (passed t) .args .h .spacings) (t .place-in .result)
+place t = let s = start (passed t) in subst (InCellOf (s .args .h .spacings)) (sym (t .place-in .ensures)) (s .pre .place)
 
 -- the value there is what the contract wants
 height-is : (t : tie.After-place-in) → let s = start (passed t) .args in
-    values (valueIn (s .h .height) (s .g) (t .place-in .result)) ≡ heightIn (s .h) (s .g) (s .q)
+    values (valueIn (s .h .corners .height) (s .h .spacings) (t .place-in .result)) ≡ heightIn (s .h) (s .bounds) (s .q)
 height-is t =
     let s = start (passed t) .args in
-    ap (λ (at : PlaceInCell). values (valueIn (s .h .height) (s .g) at)) (t .place-in .ensures)
+    ap (λ (at : PlaceInCell). values (valueIn (s .h .corners .height) (s .h .spacings) at)) (t .place-in .ensures)
     ∙ sym (answered-yes (s .h .passes) 9 _ (passes (passed t)))
 
 returns : tie.Need-returns
 returns c = let s = c .before .before .args in sym (answered-no (s .h .passes) 9 _ (not-true _ (c .if1 .taken)))
 
 is-near-requires : tie.Need-is-near-requires
-is-near-requires c κs = let t = c .before in (within t, (place t .latitude-spacing, place t .longitude-spacing))
+is-near-requires c κs = let t = c .before .before .before in (within t, (place t .latitude-spacing, place t .longitude-spacing))
 
 near-value-requires : tie.Need-near-value-requires
 near-value-requires c κs =
     let n = c .before in
-    let t = n .before .before in
+    let t = n .before .before .before .before in
     (within t, place t, sym (n .is-near .ensures) ∙ c .if2 .taken)
 
 returns-2 : tie.Need-returns-2
-returns-2 c = ap values (told w64 (c .near-value .ok) (c .near-value .ensures)) ∙ height-is (c .before .before .before .before)
+returns-2 c =
+    ap values (told w64 (c .near-value .ok) (c .near-value .ensures)) ∙ height-is (c .before .before .before .before .before .before)
 
 -- the heights, as they are passed
 abbrev placed : tie.After-struct-told4 → tie.After-place-in
-placed c = c .before .before .before .before .before .before .before
+placed c = c .before .before .before .before .before .before .before .before .before
 
-heights : (c : tie.After-struct-told4) → let h = start (passed (placed c)) .args .h in readBack (h .height) ≡ h .height
+heights : (c : tie.After-struct-told4) → let h = start (passed (placed c)) .args .h in readBack (h .corners .height) ≡ h .corners .height
 heights c = let f = c .before .before .before .struct-told .given in square-back _ (f .0 .1) (f .1 .0 .1) (f .1 .1 .0 .1) (f .1 .1 .1 .0 .1)
 
 weighed-requires : tie.Need-weighed-requires
@@ -72,7 +73,7 @@ returns-3 c =
     let k = c .before in
     let t = placed k in
     let s = start (passed t) .args in
-    let z = c .weighed .ensures ∙ ap (λ (q : Square). valueIn q (s .g) (t .place-in .result)) (heights k) in
+    let z = c .weighed .ensures ∙ ap (λ (q : Square). valueIn q (s .h .spacings) (t .place-in .result)) (heights k) in
     ap values (told w64 (c .weighed .ok) z) ∙ height-is t
 
 pub height-in-spec : {M : Type 1} → statement M

@@ -28,8 +28,8 @@ are-near-requires c κs = subst (CornersWithin correctionLimit) (sym (corners c)
 returns : tie.Need-returns
 returns c =
     let t = c .before in
-    let g = start t .args .g in
-    c .are-near .ensures ∙ ap (λ (q : Square). near q (g .latitude .spacing * g .longitude .spacing)) (corners t)
+    let s = start t .args .s in
+    c .are-near .ensures ∙ ap (λ (q : Square). near q (s .latitude * s .longitude)) (corners t)
 
 pub is-near-spec : {M : Type 1} → statement M
 is-near-spec = tie.close (tie.spec mul-area are-near-requires returns)

@@ -9,7 +9,7 @@ use Rattle.lookup.proofs.lies_in.Tie as tie
 
 -- the first test, on the offset from the south bound
 first : (c : tie.After-is-reached) → let s = c .before .before .args in
-    c .is-reached .result ≡ reaches (s .h .south) (s .g .latitude .spacing) (offsetsOf (s .g) (s .p) .northing)
+    c .is-reached .result ≡ reaches (s .h .south) (s .h .spacings .latitude) (offsetsOf (s .bounds) (s .p) .northing)
 first c = rw (c .before .offsets-of .ensures) at (c .is-reached .ensures)
 
 returns : tie.Need-returns

@@ -24,11 +24,10 @@ corners c =
 weigh-near-requires : tie.Need-weigh-near-requires
 weigh-near-requires c κs =
     let s = start c in
-    let g = s .args .g in
     let e = sym (corners c) in (
       subst (CornersWithin correctionLimit) e (s .pre .0),
       s .pre .1,
-      subst (λ (q : Square). near q (g .latitude .spacing * g .longitude .spacing) ≡ true) e (s .pre .2),
+      subst (λ (q : Square). near q (s .args .s .latitude * s .args .s .longitude) ≡ true) e (s .pre .2),
     )
 
 returns : tie.Need-returns
@@ -36,7 +35,7 @@ unfolding valueIn
 returns c =
     let t = c .before in
     let s = start t .args in
-    told w64 (c .weigh-near .ok) (c .weigh-near .ensures ∙ ap (λ (q : Square). valueIn q (s .g) (s .at)) (corners t))
+    told w64 (c .weigh-near .ok) (c .weigh-near .ensures ∙ ap (λ (q : Square). valueIn q (s .s) (s .at)) (corners t))
 
 pub near-value-spec : {M : Type 1} → statement M
 near-value-spec = tie.close (tie.spec weigh-near-requires returns)

@@ -38,7 +38,7 @@ returns-2 : tie.Need-returns-2
 returns-2 c =
     let t = c .before in
     let s = start t .args in
-    told w64 (c .weighed .ok) (c .weighed .ensures ∙ ap (λ (q : Square). valueIn q (s .g) (s .at)) (corners t))
+    told w64 (c .weighed .ok) (c .weighed .ensures ∙ ap (λ (q : Square). valueIn q (s .s) (s .at)) (corners t))
 
 pub value-between-spec : {M : Type 1} → statement M
 value-between-spec =

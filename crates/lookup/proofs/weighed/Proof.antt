@@ -17,7 +17,7 @@ returns c =
     told w64 (c .weigh .ok)
     (c .weigh .ensures ∙ (λ i. bilinear
     (square (toZ-ofZ (fits .sw) i) (toZ-ofZ (fits .se) i) (toZ-ofZ (fits .nw) i) (toZ-ofZ (fits .ne) i))
-    (s .at .u) (s .at .v) (s .g .latitude .spacing) (s .g .longitude .spacing)))
+    (s .at .u) (s .at .v) (s .s .latitude) (s .s .longitude)))
 
 pub weighed-spec : {M : Type 1} → statement M
 weighed-spec = tie.close (tie.spec (λ c κs. search needs) returns)

@@ -1,20 +1,13 @@
 -- `marker::hand_back` meets its contract: the numbers of a geometry that is handed back are small, so each fits.
-use mathlib.Core.List.{[], _∷_}
 use mathlib.Core.Path.{_≡_, ap, subst}
-use Prim.Native.Nat.{_≤_}
-use native.Mathlib.Omega.{arith}
-use lib.IntN.{ℤ, natAbs}
 use mir.Syntax.{w64}
-use mir.Val.{toZ, ofZ}
-use mir.Facts.{toZ-ofZ}
-use mir.ValLaws.{toZ-pos}
-use Rattle.integers.specs.Distance.{size}
 use Rattle.integers.specs.Machine.{zarith, told}
-use Rattle.rules.specs.Units.{longitudeLimit}
 use Rattle.rules.specs.Answers.{values, number, numberOf}
 use Rattle.rules.specs.Limits.{GeometryPasses, HandedBack}
 use Rattle.rules.specs.Files.{fileAnswerOf}
+use Rattle.rules.proofs.Files.{passes-small}
 use borrow.Author.Needs.{needs}
+use Rattle.marker.proofs.HandedBack.{numbers-read}
 use Rattle.marker.proofs.hand_back.Statement.{statement}
 use Rattle.marker.proofs.hand_back.Tie as tie
 
@@ -36,23 +29,11 @@ cast-t10 c = omega (zarith, small (c .before .before .before .before .before .be
 cast-t11 : tie.Need-cast-t11
 cast-t11 c = omega (zarith, small (c .before .before .before .before .before .before .before))
 
--- a bound is read back as it is
-bound-is : (z : ℤ) → natAbs z ≤ longitudeLimit → toZ w64 (ofZ w64 z) ≡ z
-bound-is z h = toZ-ofZ (omega (zarith, size z))
-
 returns : tie.Need-returns
 returns c =
     let at = c .before .before .before .before .before .before .before .before .before .before in
     let e = converted at in
-    let g = at .answer .given .0 .0 in
-    let s = small at in
-    let south = bound-is (g .latitude .start) (omega (arith, s .latitude .start-within)) in
-    let west = bound-is (g .longitude .start) (omega (arith, s .longitude .start-within)) in
-    let p = toZ-pos w64 (g .latitude .spacing) (omega (arith, s .latitude .sized)) in
-    let q = toZ-pos w64 (g .longitude .spacing) (omega (arith, s .longitude .sized)) in
-    let rows = toZ-pos w64 (g .latitude .count) (omega (arith, s .latitude .sized)) in
-    let columns = toZ-pos w64 (g .longitude .count) (omega (arith, s .longitude .sized)) in
-    (rw e, rw e (λ i. south i ∷ west i ∷ p i ∷ q i ∷ rows i ∷ columns i ∷ []))
+    (rw e, rw e (numbers-read _ (passes-small _ (small at))))
 
 returns-2 : tie.Need-returns-2
 returns-2 c =

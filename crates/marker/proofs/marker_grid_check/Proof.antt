@@ -8,8 +8,8 @@ use mir.ValLaws.{toZ-pos}
 use Rattle.integers.specs.Machine.{zarith, told}
 use Rattle.rules.specs.Answers.{values}
 use Rattle.rules.specs.Check.{gridCheck, checkedOf}
-use Rattle.slopes.specs.Rows.{stepMost, FindingsWithin}
-use Rattle.slopes.proofs.Maxima.{passed-small}
+use Rattle.slopes.specs.Slopes.{stepMost, FindingsWithin}
+use Rattle.slopes.proofs.Asking.{passed-small}
 use borrow.Author.Needs.{needs}
 use Rattle.marker.proofs.marker_grid_check.Statement.{statement}
 use Rattle.marker.proofs.marker_grid_check.Tie as tie

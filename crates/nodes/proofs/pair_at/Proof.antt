@@ -5,7 +5,8 @@ use native.Mathlib.Omega.{arith}
 use lib.ListN.{length}
 use borrow.Author.Needs.{needs}
 use Rattle.nodes.specs.Row.{valueIn, pairOf}
-use Rattle.nodes.proofs.Parts.{row-inside, partFrom, part-length, value-in-row}
+use Rattle.rules.proofs.Lent.{partFrom, part-length}
+use Rattle.nodes.proofs.Parts.{row-inside, value-in-row}
 use Rattle.nodes.proofs.pair_at.Statement.{statement}
 use Rattle.nodes.proofs.pair_at.Tie as tie
 

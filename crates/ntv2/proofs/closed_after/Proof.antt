@@ -1,4 +1,4 @@
--- `ntv2::closed_after` meets its contract: three tests, as the rule has them.
+-- `ntv2::closed_after` meets its contract: two tests, as the rule has them.
 use mathlib.Core.Path.{refl, ap}
 use Prim.Native.Nat.{ℕ, _+_, _*_}
 use native.Mathlib.Omega.{arith}
@@ -15,22 +15,15 @@ use Rattle.ntv2.proofs.closed_after.Tie as tie
 returns : tie.Need-returns
 unfolding closed
 returns c =
-    let a = c .before .before .before .before .args in
-    and-next refl (eq-eqb (length (now (a .file))) (368 + 16 * a .nodes) (omega arith))
-    (and-next refl (eq-eqb (a .room) (8 * a .nodes) (omega arith)) (ap (λ (n : ℕ). eqb n endLabel) (c .big-u64-at .ensures)))
+    let a = c .before .before .before .args in
+    and-next refl (eq-eqb (length (now (a .grid))) (192 + 16 * a .nodes) (omega arith))
+    (ap (λ (n : ℕ). eqb n endLabel) (c .big-u64-at .ensures))
 
 returns-2 : tie.Need-returns-2
 unfolding closed
 returns-2 c =
-    let a = c .before .before .before .args in
-    and-next refl (eq-eqb (length (now (a .file))) (368 + 16 * a .nodes) (omega arith))
-    (and-stop _ refl (ne-eqb (a .room) (8 * a .nodes) (λ e. omega arith)))
-
-returns-3 : tie.Need-returns-3
-unfolding closed
-returns-3 c =
     let a = c .before .before .args in
-    and-stop _ refl (ne-eqb (length (now (a .file))) (368 + 16 * a .nodes) (λ e. omega arith))
+    and-stop _ refl (ne-eqb (length (now (a .grid))) (192 + 16 * a .nodes) (λ e. omega arith))
 
 pub closed-after-spec : {M : Type 1} → statement M
 closed-after-spec =
@@ -40,8 +33,6 @@ closed-after-spec =
     (λ c. search needs)
     (λ c. search needs)
     (λ c. search needs)
-    (λ c. search needs)
     (λ c κs. search needs)
     returns
-    returns-2
-    returns-3)
+    returns-2)

@@ -1,4 +1,4 @@
--- `ntv2::read_file` meets its contract: the tests of refusal 18 in a row.
+-- `ntv2::read_file` meets its contract: the overview, the first grid and what follows it.
 use mathlib.Core.Bool.{true, false, _&&_}
 use mathlib.Core.List.{List}
 use mathlib.Core.Path.{_≡_, sym, ap, subst, _∙_}
@@ -6,112 +6,111 @@ use Prim.Native.Nat.{ℕ, _*_, _≤_}
 use native.Mathlib.Nat.{mul-le-mul}
 use native.Mathlib.Omega.{arith}
 use lib.Dec.{leb}
-use lib.ListN.{length}
+use lib.ListN.{length, length-drop}
 use denote.Ref.{now}
 use borrow.Author.Needs.{needs}
-use borrow.Author.Tests.{le-leb, lt-leb, not-true, not-false}
+use borrow.Author.Tests.{leb-true, not-true, not-false}
+use Rattle.integers.specs.Booleans.{and-left}
 use Rattle.rules.specs.declared.Geometry.{Geometry}
+use Rattle.rules.specs.declared.FileGrids.{FileGrids}
 use Rattle.rules.specs.Units.{countMost}
-use Rattle.rules.specs.Answers.{values, numberOf}
+use Rattle.rules.specs.Answers.{Outcome, ask, values, numberOf}
 use Rattle.rules.specs.Limits.{GeometryPasses}
 use Rattle.rules.specs.Files.{fileAnswerOf}
-use Rattle.rules.specs.Ntv2.{gridHeaderOf, nodeCount, headerPasses, closed, question18}
+use Rattle.rules.specs.Ntv2.{noneText, overviewPasses, gridHeaderOf, nodeCount, gridPasses, firstGrid, restPasses, question18}
+use Rattle.rules.specs.Ntv2.{subgridHeaderOf}
 use Rattle.rules.proofs.Answers.{asked, asked-no}
-use Rattle.ntv2.proofs.Header.{header-establishes}
+use Rattle.rules.proofs.Lent.{part-from}
+use Rattle.ntv2.proofs.Passing.{GridIs, grid-is}
 use Rattle.ntv2.proofs.read_file.Statement.{statement}
 use Rattle.ntv2.proofs.read_file.Tie as tie
 
--- the file and the room, from after its length was asked
-abbrev file : tie.Else1 → List ℕ
+-- the file and both rooms, from after the overview was asked
+abbrev file : tie.After-overview-passes → List ℕ
 file c = now (c .before .before .args .file)
 
-abbrev room : tie.Else1 → ℕ
+abbrev room : tie.After-overview-passes → ℕ
 room c = c .before .before .args .room
 
-long : (c : tie.Else1) → leb 368 (length (file c)) ≡ true
-long c = le-leb 368 (length (file c)) (omega arith)
-
--- the tests that are left after the overview
-tested : (c : tie.Else2) → let e = c .before .before in
-    question18 (file e) (room e) ≡ (headerPasses (file e) && closed (file e) (nodeCount (gridHeaderOf (file e))) (room e))
-unfolding question18
-tested c =
-    let o = c .before in
-    rw (long (o .before), sym (o .overview-passes .ensures) ∙ not-false _ (c .if2 .left))
+abbrev dense-room : tie.After-overview-passes → ℕ
+dense-room c = c .before .before .args .dense-room
 
 returns : tie.Need-returns
 unfolding question18
-returns c = let b = now (c .before .before .args .file) in rw (lt-leb 368 (length b) (omega arith))
+returns c = rw (sym (c .before .overview-passes .ensures) ∙ not-true _ (c .if1 .taken))
+
+overview : (c : tie.Else1) → overviewPasses (file (c .before)) ≡ true
+overview c = sym (c .before .overview-passes .ensures) ∙ not-false _ (c .if1 .left)
+
+-- so it has an overview
+long : (c : tie.Else1) → 176 ≤ length (file (c .before))
+unfolding overviewPasses
+long c = leb-true 176 (length (file (c .before))) (and-left (leb 176 (length (file (c .before)))) _ (overview c))
+
+sub-read-grid : tie.Need-sub-read-grid
+sub-read-grid c = omega (arith, long c)
+
+part-read-grid-start : tie.Need-part-read-grid-start
+part-read-grid-start c = omega (arith, long c)
+
+-- what was asked of the part after it is what the rule asks of the first grid
+grid-asked : (c : tie.After-read-grid) → let o = c .before .before .before in
+    fileAnswerOf (c .read-grid .result)
+    ≡ ask (gridPasses (firstGrid (file o)) noneText (room o)) 18 (values (gridHeaderOf (firstGrid (file o))))
+grid-asked c =
+    let o = c .before .before .before in
+    c .read-grid .ensures
+    ∙ ap (λ (g : List ℕ). ask (gridPasses g noneText (room o)) 18 (values (gridHeaderOf g))) (part-from (file o) 176)
+
+passed : (c : tie.After-g) → let g = firstGrid (file (c .before .before .before .before .before)) in
+    (gridPasses g noneText (room (c .before .before .before .before .before)) ≡ true) × (gridHeaderOf g ≡ c .g .given .0 .0)
+passed c =
+    let e = sym (grid-asked (c .before .before)) ∙ ap fileAnswerOf (c .g .given .1) in
+    let a = asked (gridPasses _ _ _) 18 (values (gridHeaderOf _)) _ e in
+    (a .0, cc)
+
+coarse : (c : tie.After-g) → let o = c .before .before .before .before .before in GridIs (firstGrid (file o)) (room o)
+coarse c = grid-is _ noneText _ (passed c .0)
+
+read-rest-requires : tie.Need-read-rest-requires
+read-rest-requires c κs =
+    let p = c .before in
+    let o = p .before .before .before .before .before in
+    let g = subst GeometryPasses (passed p .1) (coarse p .geometry) in (
+      omega (arith, coarse p .long, length-drop 176 (file o)),
+      mul-le-mul {n₂ = countMost} {m₂ = countMost} (g .latitude .sized .count-most) (g .longitude .sized .count-most),
+    )
 
 returns-2 : tie.Need-returns-2
 unfolding question18
 returns-2 c =
-    let o = c .before in
-    rw (long (o .before), sym (o .overview-passes .ensures) ∙ not-true _ (c .if2 .taken))
-
--- the header was refused, or it was not
-refused : (c : tie.After-r) → let h = c .before .before in
-    (headerPasses (file (h .before .before .before)) ≡ false) × (numberOf (c .r .given .0 .0) ≡ 18)
-refused c =
-    let h = c .before .before in
-    asked-no (headerPasses _) 18 (gridHeaderOf _) _ (sym (h .read-header .ensures) ∙ ap fileAnswerOf (c .r .given .1))
-
-passed : (c : tie.After-g) → let b = file (c .before .before .before .before .before) in
-    (headerPasses b ≡ true) × (gridHeaderOf b ≡ c .g .given .0 .0)
-passed c =
-    let h = c .before .before in
-    let a = asked (headerPasses _) 18 (values (gridHeaderOf _)) _ (sym (h .read-header .ensures) ∙ ap fileAnswerOf (c .g .given .1)) in
-    (a .0, cc)
-
-nodes-most : (c : tie.After-g) → nodeCount (c .g .given .0 .0) ≤ countMost * countMost
-nodes-most c =
-    let p = passed c in
-    let g = subst GeometryPasses (p .1) (header-establishes _ (p .0)) in
-    mul-le-mul {n₂ = countMost} {m₂ = countMost} (g .latitude .sized .count-most) (g .longitude .sized .count-most)
-
-mul-closed-after : tie.Need-mul-closed-after
-mul-closed-after c = omega (arith, nodes-most (c .before .before))
-
-closed-after-requires : tie.Need-closed-after-requires
-closed-after-requires c κs = omega (arith, nodes-most (c .before .before))
+    let r = c .before in
+    let g = r .before .before in
+    let no = asked-no (gridPasses _ _ _) 18 (gridHeaderOf _) _ (sym (grid-asked g) ∙ ap fileAnswerOf (r .r .given .1)) in
+    rw (overview (g .before .before), no .0, no .1)
 
 returns-3 : tie.Need-returns-3
+unfolding question18
 returns-3 c =
-    let r = c .before in
-    rw (tested (r .before .before .before), refused r .0, refused r .1)
-
--- lengths and END, for the header's nodes
-lengths : (c : tie.After-closed-after) → let g = c .before .before .before in let e = g .before .before .before .before .before in
-    c .closed-after .result ≡ closed (file e) (nodeCount (gridHeaderOf (file e))) (room e)
-lengths c =
-    let g = c .before .before .before in
-    let e = g .before .before .before .before .before in
-    c .closed-after .ensures ∙ ap (λ (g : Geometry). closed (file e) (nodeCount g) (room e)) (sym (passed g .1))
-
-returns-4 : tie.Need-returns-4
-returns-4 c =
-    let l = c .before in
-    let g = l .before .before .before in
-    rw (tested (g .before .before .before), passed g .0, sym (lengths l) ∙ c .if3 .taken) (ap values (sym (passed g .1)))
-
-returns-5 : tie.Need-returns-5
-returns-5 c =
-    let l = c .before in
-    let g = l .before .before .before in
-    rw (tested (g .before .before .before), passed g .0, sym (lengths l) ∙ c .if3 .left)
+    let p = c .before .before in
+    let o = p .before .before .before .before .before in
+    let b = file o in
+    let rest : Geometry → Outcome FileGrids = λ g.
+    ask (restPasses b (nodeCount g) (dense-room o)) 18 (values (record { coarse = g; dense = subgridHeaderOf b (nodeCount g) })) in
+    rw (overview (p .before .before .before .before), passed p .0) (c .read-rest .ensures ∙ ap rest (sym (passed p .1)))
 
 pub read-file-spec : {M : Type 1} → statement M
 read-file-spec =
     tie.close
     (tie.spec
+    (λ c κs. search needs)
     returns
+    sub-read-grid
+    part-read-grid-start
+    (λ c. search needs)
     (λ c κs. search needs)
+    (λ c. search needs)
+    (λ c. search needs)
+    read-rest-requires
     returns-2
-    (λ c κs. search needs)
-    (λ c. search needs)
-    (λ c. search needs)
-    mul-closed-after
-    closed-after-requires
-    returns-3
-    returns-4
-    returns-5)
+    returns-3)

@@ -18,7 +18,7 @@ abbrev small : ℕ → Bool
 small bits = leb (bits % 2147483648) largestBits
 
 first : (c : tie.After-u32-at) → let s = c .before .before .args in
-    small (c .u32-at .result) ≡ small (latitudeShift (now (s .file)) (s .n))
+    small (c .u32-at .result) ≡ small (latitudeShift (now (s .grid)) (s .n))
 first c = ap small (c .u32-at .ensures .0)
 
 returns : tie.Need-returns
@@ -26,13 +26,13 @@ returns c =
     let f = c .before .before in
     let s = f .before .before .args in
     let passes = le-leb (f .u32-at .result % 2147483648) largestBits (omega arith) in
-    and-next (first f) passes (ap small (c .u32-at2 .ensures .0)) ∙ sym (shifts-tested (now (s .file)) (s .n))
+    and-next (first f) passes (ap small (c .u32-at2 .ensures .0)) ∙ sym (shifts-tested (now (s .grid)) (s .n))
 
 returns-2 : tie.Need-returns-2
 returns-2 c =
     let f = c .before in
     let s = f .before .before .args in
-    let b = now (s .file) in
+    let b = now (s .grid) in
     let past = lt-leb (f .u32-at .result % 2147483648) largestBits (omega arith) in
     and-stop (small (longitudeShift b (s .n))) (first f) past ∙ sym (shifts-tested b (s .n))
 

@@ -30,23 +30,23 @@ start-2 c = start (c .before .before)
 fit-correction-requires : tie.Need-fit-correction-requires
 fit-correction-requires c κs =
     let s = start c in
-    rw (c .u32-at .ensures .0) (both-fit (now (s .args .file)) (s .args .n) (s .pre .2) .0)
+    rw (c .u32-at .ensures .0) (both-fit (now (s .args .grid)) (s .args .n) (s .pre .2) .0)
 
 turned-correction-requires : tie.Need-turned-correction-requires
 turned-correction-requires c κs =
     let s = start-2 c in
-    (omega (arith, c .u32-at2 .ensures .1), rw (c .u32-at2 .ensures .0) (both-fit (now (s .args .file)) (s .args .n) (s .pre .2) .1))
+    (omega (arith, c .u32-at2 .ensures .1), rw (c .u32-at2 .ensures .0) (both-fit (now (s .args .grid)) (s .args .n) (s .pre .2) .1))
 
 -- both corrections, as the machine has them
 latitude-is : (c : tie.After-fit-correction) → let s = start (c .before) .args in
-    toZ w64 (ofZ w64 (c .fit-correction .result)) ≡ latitudeFrom (now (s .file)) (s .n)
+    toZ w64 (ofZ w64 (c .fit-correction .result)) ≡ latitudeFrom (now (s .grid)) (s .n)
 unfolding latitudeFrom
 latitude-is c =
     let f = c .fit-correction in
     told w64 (f .ok) (f .ensures .0) ∙ ap (λ bits. arcseconds (valueOf binary32 bits)) (c .before .u32-at .ensures .0)
 
 longitude-is : (c : tie.After-turned-correction) → let s = start-2 (c .before) .args in
-    toZ w64 (ofZ w64 (c .turned-correction .result)) ≡ longitudeFrom (now (s .file)) (s .n)
+    toZ w64 (ofZ w64 (c .turned-correction .result)) ≡ longitudeFrom (now (s .grid)) (s .n)
 unfolding longitudeFrom
 longitude-is c =
     let f = c .turned-correction in
@@ -63,7 +63,7 @@ write-i32-requires c κs =
 
 -- what the first call leaves
 first-left : (c : tie.After-write-i32) → let s = start-2 (c .before .before .before) .args in
-    c .write-i32 .last .0 ≡ bytesOf (latitudeFrom (now (s .file)) (s .n)) ++ drop 4 (now (s .rest))
+    c .write-i32 .last .0 ≡ bytesOf (latitudeFrom (now (s .grid)) (s .n)) ++ drop 4 (now (s .rest))
 first-left c =
     let u = c .before .before .before in
     c .write-i32 .ensures ∙ ap (λ (z : ℤ). bytesOf z ++ drop 4 (now (start-2 u .args .rest))) (latitude-is (u .before))
@@ -93,8 +93,8 @@ returns c =
     let after : ℤ → List ℕ = λ z. bytesOf z ++ drop 4 (take rest (drop 4 left)) in
     let second = w2 .write-i322 .ensures ∙ ap after (longitude-is (w .before .before)) in
     ap (λ (m : List ℕ). take 4 left ++ (m ++ drop rest (drop 4 left))) second
-    ∙ ap (after-both (bytesOf (longitudeFrom (now (s .file)) (s .n)))) (first-left w)
-    ∙ two-fronts (bytesOf (latitudeFrom (now (s .file)) (s .n))) (bytesOf (longitudeFrom (now (s .file)) (s .n))) (now (s .rest))
+    ∙ ap (after-both (bytesOf (longitudeFrom (now (s .grid)) (s .n)))) (first-left w)
+    ∙ two-fronts (bytesOf (latitudeFrom (now (s .grid)) (s .n))) (bytesOf (longitudeFrom (now (s .grid)) (s .n))) (now (s .rest))
 
 pub write-node-spec : {M : Type 1} → statement M
 write-node-spec =

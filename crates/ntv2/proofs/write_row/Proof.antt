@@ -13,11 +13,11 @@ use Rattle.ntv2.proofs.write_row.Statement.{statement}
 use Rattle.ntv2.proofs.write_row.Tie as tie
 
 abbrev Inv-loop : tie.InvT-loop
-Inv-loop file columns row part₀ column₀ part column =
-    (column ≤ columns) × (length part ≡ 8 * columns) × Written 8 (nodes file columns row) part column
+Inv-loop grid columns row part₀ column₀ part column =
+    (column ≤ columns) × (length part ≡ 8 * columns) × Written 8 (nodes grid columns row) part column
 
 abbrev μ-loop : tie.MeasureT-loop
-μ-loop file columns row part₀ column₀ part column = columns - column
+μ-loop grid columns row part₀ column₀ part column = columns - column
 
 -- the row's first node is far from the largest number
 row-most : (c : tie.Start Inv-loop μ-loop) → c .args .row * c .args .columns ≤ countMost * countMost

@@ -10,7 +10,7 @@ use contract.Monad.{Fun}
 use Rattle.source.proofs.look_up_height.Symbol as callee-def
 use Rattle.source.proofs.look_up_height.Symbol.{name as #source·look-up-height}
 use Rattle.source.proofs.look_up_height.Met as callee-thm
-use Rattle.source.specs.Asked.{OpenAround}
+use Rattle.rules.specs.Limits.{OpenAround}
 use Rattle.opened.specs.Over.{IsLookup}
 use Rattle.opened.proofs.Types.{Point, HeightLookup}
 use Rattle.opened.proofs.Over.{own-clauses, entered-over}

@@ -7,7 +7,7 @@ use prog.Routine.{Routine}
 use prog.Wp.{Heap}
 use ghost.Atoms.{Atoms}
 use contract.Monad.{Fun}
-use Rattle.source.specs.Asked.{OpenAround}
+use Rattle.rules.specs.Limits.{OpenAround}
 use Rattle.opened.specs.Over.{IsLookup}
 use Rattle.opened.proofs.Types.{Point, HeightLookup}
 use Rattle.opened.proofs.Over.{its-clauses}

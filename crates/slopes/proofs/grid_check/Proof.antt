@@ -1,6 +1,5 @@
 -- `slopes::grid_check` meets its contract: questions 1 to 6 by `open`, the others by `check_planes`.
 use mathlib.Core.Path.{_≡_, sym, ap, _∙_}
-use native.Mathlib.Omega.{arith}
 use denote.Ref.{now}
 use borrow.Author.Needs.{needs}
 use Rattle.rules.specs.Answers.{values}

@@ -12,8 +12,8 @@ use Rattle.source.proofs.height_held.Tie as tie
 abbrev start : tie.Then1 → tie.Start
 start c = c .before .before .before .before
 
-held : (c : tie.Then1) → let s = start c .args in s .h ≡ heldAt (gridOf (now (s .image)) (s .l)) (s .q)
-held c = start c .pre .1 (sym (c .before .lies-in .ensures) ∙ c .if1 .taken)
+held : (c : tie.Then1) → let s = start c .args in s .h ≡ heldAt (s .l .latitude .geometry) (gridOf (now (s .image)) (s .l)) (s .q)
+held c = let s = start c in s .pre .1 (s .pre .2) (sym (c .before .lies-in .ensures) ∙ c .if1 .taken)
 
 height-in-requires : tie.Need-height-in-requires
 height-in-requires c κs = around-holds (start c .pre .0) (held c)
@@ -21,7 +21,7 @@ height-in-requires c κs = around-holds (start c .pre .0) (held c)
 returns : tie.Need-returns
 returns c = let t = c .before in
     let s = start t in
-    c .height-in .ensures ∙ sym (height-around (s .pre .0) (held t) (s .pre .2))
+    c .height-in .ensures ∙ height-around (s .pre .0) (held t) (s .pre .2)
 
 pub height-held-spec : {M : Type 1} → statement M
 height-held-spec =

@@ -9,7 +9,7 @@ returns : tie.Need-returns
 returns c = c .height-on .ensures ∙ sym (height-of-two _ _ (c .before .if1 .taken))
 
 returns-2 : tie.Need-returns-2
-returns-2 c = c .height-around .ensures ∙ sym (height-of-one _ _ (c .before .if1 .left))
+returns-2 c = c .look-up-node-height .ensures ∙ sym (height-of-one _ _ (c .before .if1 .left))
 
 pub look-up-height-spec : {M : Type 1} → statement M
 look-up-height-spec = tie.close (tie.spec (λ c κs. search needs) returns (λ c κs. search needs) returns-2)

@@ -29,8 +29,8 @@ moved-requires : tie.Need-moved-requires
 moved-requires c κs =
     let s = c .before .before .before in
     let b = s .pre .1 .bounded in
-    let p = point-within (s .args .g) (s .args .p) (b .geometry) (s .pre .0) in
-    let r = point-within (s .args .g) (s .args .r) (b .geometry) (b .point) in
+    let p = point-within (s .args .bounds) (s .args .p) (b .geometry) (s .pre .0) in
+    let r = point-within (s .args .bounds) (s .args .r) (b .geometry) (b .point) in
     let within = corrections-within (passes (c .before)) (s .pre .1) in
     (record { latitude = omega arith; longitude = omega arith }, rw (c .corrections-in .ensures) within)
 
@@ -42,9 +42,10 @@ unfolding evaluationOf
 returns-2 c =
     let t = c .before .before .before in
     let s = t .before .before .args in
-    let q = minus (s .p) (correctionsIn (s .h) (s .g) (s .r)) in
+    let q = minus (s .p) (correctionsIn (s .h) (s .bounds) (s .r)) in
     let e : c .before .moved .result ≡ q = rw (c .before .before .corrections-in .ensures) at (c .before .moved .ensures) in
-    c .turn-to .ensures ∙ ap (turnOf (s .g) (s .r)) e ∙ sym (λ i. cond (passes t i) (turnOf (s .g) (s .r) q) (turn.Refused NodeLimits))
+    let onto = turnOf (s .bounds) (s .stop) (s .r) in
+    c .turn-to .ensures ∙ ap onto e ∙ sym (λ i. cond (passes t i) (onto q) (turn.Refused NodeLimits))
 
 pub evaluation-spec : {M : Type 1} → statement M
 evaluation-spec =

@@ -4,7 +4,7 @@ use native.Mathlib.Omega.{arith}
 use lib.IntN.{_-ℤ_}
 use Rattle.integers.specs.Booleans.{and-next, and-stop}
 use Rattle.integers.specs.Machine.{difference-fits, difference-back}
-use Rattle.rules.specs.Units.{within, stopDistance}
+use Rattle.rules.specs.Units.{within}
 use Rattle.rules.specs.Ways.{settled}
 use borrow.Author.Needs.{needs}
 use Rattle.turns.proofs.is_settled.Statement.{statement}
@@ -16,7 +16,7 @@ start c = c .before .before .before .before .before .before .before .before
 
 -- the first test, on the latitudes themselves
 first : (c : tie.After-is-within) → let s = start (c .before) in
-    c .is-within .result ≡ within stopDistance (s .args .q .latitude -ℤ s .args .r .latitude)
+    c .is-within .result ≡ within (s .args .stop) (s .args .q .latitude -ℤ s .args .r .latitude)
 first c =
     let s = start (c .before) in
     rw (difference-back (s .args .q .latitude) (s .args .r .latitude) (omega arith) (omega arith)) at (c .is-within .ensures)

@@ -9,7 +9,7 @@ use borrow.Author.Needs.{needs}
 use Rattle.turns.proofs.turn_to.Statement.{statement}
 use Rattle.turns.proofs.turn_to.Tie as tie
 
-bounds : (c : tie.Else1) → inside (c .before .before .args .g) (c .before .before .args .q) ≡ true
+bounds : (c : tie.Else1) → inside (c .before .before .args .bounds) (c .before .before .args .q) ≡ true
 bounds c = sym (c .before .in-bounds .ensures) ∙ not-false _ (c .if1 .left)
 
 returns : tie.Need-returns
@@ -18,8 +18,8 @@ returns c = rw (sym (c .before .in-bounds .ensures) ∙ not-true _ (c .if1 .take
 
 is-settled-requires : tie.Need-is-settled-requires
 is-settled-requires c κs = let s = c .before .before in
-    let q = point-within (s .args .g) (s .args .q) (s .pre .geometry) (bounds c) in
-    let r = point-within (s .args .g) (s .args .r) (s .pre .geometry) (s .pre .point) in
+    let q = point-within (s .args .bounds) (s .args .q) (s .pre .geometry) (bounds c) in
+    let r = point-within (s .args .bounds) (s .args .r) (s .pre .geometry) (s .pre .point) in
     (q, r)
 
 returns-2 : tie.Need-returns-2

@@ -16,7 +16,7 @@ use Rattle.rules.specs.Image.{gridOf}
 use Rattle.rules.specs.Lookup.{inside}
 use Rattle.rules.specs.Ways.{question7, heightLimit, wayOf, convertOver, sourceOf}
 use Rattle.rules.proofs.Limits.{fix-within}
-use Rattle.source.specs.Asked.{OpenAround}
+use Rattle.rules.specs.Limits.{OpenAround}
 use Rattle.ways.proofs.convert_over.Statement.{statement}
 use Rattle.ways.proofs.convert_over.Tie as tie
 

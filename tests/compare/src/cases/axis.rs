@@ -44,3 +44,15 @@ impl Axis {
         self.low + random.between(0, self.lines - 1) * self.spacing
     }
 }
+
+/// The geometry of two axes.
+pub fn geometry_of(latitude: &Axis, longitude: &Axis) -> Geometry {
+    Geometry {
+        south: latitude.low,
+        west: longitude.low,
+        latitude_spacing: latitude.spacing as u32,
+        longitude_spacing: longitude.spacing as u32,
+        rows: latitude.lines as u32,
+        columns: longitude.lines as u32,
+    }
+}

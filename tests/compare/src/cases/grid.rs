@@ -37,7 +37,7 @@ impl<const VALUES: usize> Grid<VALUES> {
 
 impl Grid<3> {
     /// A grid of corrections and heights.
-    fn of_all(geometry: Geometry, nodes: Vec<[i32; 3]>) -> Grid<3> {
+    pub fn of_all(geometry: Geometry, nodes: Vec<[i32; 3]>) -> Grid<3> {
         Grid {
             geometry,
             nodes,
@@ -52,13 +52,23 @@ impl Grid<3> {
 
     /// The corrections and the heights as grids of their own.
     pub fn split(self) -> (Grid<2>, Grid<1>) {
-        let corrections = Grid {
-            geometry: self.geometry,
-            nodes: self.nodes.iter().map(|node| [node[0], node[1]]).collect(),
-            limits: [LIMITS[0], LIMITS[1]],
-        };
+        let corrections = self.nodes.iter().map(|node| [node[0], node[1]]).collect();
         let heights = self.nodes.iter().map(|node| node[HEIGHT]).collect();
-        (corrections, Grid::of_heights(self.geometry, heights))
+        (
+            Grid::of_corrections(self.geometry, corrections),
+            Grid::of_heights(self.geometry, heights),
+        )
+    }
+}
+
+impl Grid<2> {
+    /// A grid of corrections.
+    pub fn of_corrections(geometry: Geometry, nodes: Vec<[i32; 2]>) -> Grid<2> {
+        Grid {
+            geometry,
+            nodes,
+            limits: [LIMITS[0], LIMITS[1]],
+        }
     }
 }
 
@@ -130,7 +140,7 @@ fn table(random: &mut Random) -> Grid<3> {
 
 /// Steady slopes of a few hundredths to more than one, and room to move: the way out needs
 /// several evaluations, or does not stop.
-fn steep(random: &mut Random) -> Grid<3> {
+pub fn steep(random: &mut Random) -> Grid<3> {
     let spacing = 1 << random.between(3, 26);
     let lines = [random.between(3, 8), random.between(3, 8)];
     let geometry = geometry::placed(random, [spacing, spacing], lines);

@@ -1,5 +1,6 @@
 //! The made-up calls: each follows from a seed and an index alone. Here those of edition 1, with
-//! what edition 2's, in `two_grids`, and those over grid files, in `files`, share with them.
+//! what edition 2's, in `two_grids`, those of its kind 1, in `three_grids`, and those over grid
+//! files, in `files`, share with them.
 
 mod axis;
 mod damage;
@@ -9,6 +10,8 @@ mod geometry;
 mod grid;
 mod lists;
 mod notations;
+mod over_grids;
+pub mod three_grids;
 pub mod two_grids;
 pub mod values;
 
@@ -57,9 +60,20 @@ fn largest_grid_call(random: &mut Random) -> Call {
 
 /// The check or a list over an image, with fixes that suit the grid it was made from.
 fn any_call_over(random: &mut Random, grid: &Grid<3>, image: Vec<u8>) -> Call {
+    check_or_list(random, image, |random, way, image| {
+        lists::list_over(random, way, grid, image)
+    })
+}
+
+/// The check or a list of either way over an image.
+fn check_or_list(
+    random: &mut Random,
+    image: Vec<u8>,
+    list_over: impl Fn(&mut Random, Way, Vec<u8>) -> Call,
+) -> Call {
     match random.below(3) {
         0 => Call::GridCheck { image },
-        1 => lists::list_over(random, Way::Out, grid, image),
-        _ => lists::list_over(random, Way::Back, grid, image),
+        1 => list_over(random, Way::Out, image),
+        _ => list_over(random, Way::Back, image),
     }
 }

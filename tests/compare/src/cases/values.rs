@@ -1,5 +1,5 @@
-//! Made-up values of nodes: constant, smooth, steep, rough, at their limits, and as far apart as
-//! the library still weighs with one division.
+//! Made-up values of nodes: constant, smooth, gentle, steep, rough, at their limits, and as far
+//! apart as the library still weighs with one division.
 
 use crate::random::Random;
 use reference::Geometry;
@@ -16,6 +16,8 @@ pub enum Manner {
     Constant,
     /// Steps that question 12 allows.
     Smooth,
+    /// Steps of up to a third of those.
+    Gentle,
     /// Steps of two hundredths to more than a whole spacing.
     Steep,
     /// Random in some reach.
@@ -83,6 +85,10 @@ fn unlimited_plane(
         Manner::Smooth => {
             let share = random.between(0, 100);
             sum_of_walks(random, geometry, reach, [share, 100 - share])
+        }
+        Manner::Gentle => {
+            let share = random.between(0, 30);
+            sum_of_walks(random, geometry, reach, [share, 30 - share])
         }
         Manner::Steep => {
             let slope = 100 * random.pick(&[2, 5, 10, 20, 30, 50, 70, 90, 110]);

@@ -1,8 +1,8 @@
 //! The damaged images of edition 2.
 
 use super::STREAM;
-use crate::made_up::images;
-use reference::{Geometry, Trailer, TwoGridTrailer};
+use crate::made_up::{broken_fields, images, question};
+use reference::{Trailer, TwoGridTrailer};
 use std::collections::BTreeSet;
 
 /// The trailers of all images that say edition 2 and are long enough to have one.
@@ -10,36 +10,6 @@ fn trailers() -> impl Iterator<Item = TwoGridTrailer> {
     images(STREAM)
         .filter_map(|image| TwoGridTrailer::read(&image))
         .filter(|trailer| trailer.edition == 2)
-}
-
-/// The first of questions 3 to 5 whose answer is no, or else 6.
-fn question(geometry: &Geometry) -> i32 {
-    match geometry {
-        _ if !geometry.counts_fit() => 3,
-        _ if !geometry.spacings_fit() => 4,
-        _ if !geometry.bounds_fit() => 5,
-        _ => 6,
-    }
-}
-
-/// Which fields of a geometry make it unfit: with a small number in its place, the answer to the
-/// same question is yes.
-fn broken_fields(geometry: Geometry) -> Vec<&'static str> {
-    let fields: [(_, fn(&mut Geometry)); 6] = [
-        ("south", |it| it.south = 0),
-        ("west", |it| it.west = 0),
-        ("latitude spacing", |it| it.latitude_spacing = 2),
-        ("longitude spacing", |it| it.longitude_spacing = 2),
-        ("rows", |it| it.rows = 2),
-        ("columns", |it| it.columns = 2),
-    ];
-    let is_broken = |mend: fn(&mut Geometry)| {
-        let mut mended = geometry;
-        mend(&mut mended);
-        question(&mended) > question(&geometry)
-    };
-    let broken = fields.into_iter().filter(|(_, mend)| is_broken(*mend));
-    broken.map(|(name, _)| name).collect()
 }
 
 #[test]

@@ -1,10 +1,12 @@
 //! The grids of edition 2's images: how they lie to each other, and what their heights are.
 
 use super::STREAM;
-use crate::made_up::{for_each_point, furthest_apart, images, limits_of_checked, rounding_case};
+use crate::made_up::{
+    for_each_point, furthest_apart, images, limits_of_checked, limits_of_nodes, rounding_case,
+};
 use compare::cases::values::NEAR;
 use compare::Way;
-use reference::{open_image, Geometry, Grid, Image};
+use reference::{open_image, Geometry, Image};
 use std::collections::BTreeSet;
 
 /// The correction and the height geometry of all images that open as edition 2.
@@ -13,6 +15,7 @@ fn geometries() -> impl Iterator<Item = (Geometry, Geometry)> {
         Ok(Image::TwoGrids {
             corrections,
             heights,
+            ..
         }) => Some((corrections.geometry, heights.geometry)),
         _ => None,
     })
@@ -108,26 +111,6 @@ fn checked_height_grids_reach_the_limits_of_the_geometry_and_pass_with_steps() {
     assert_eq!(met.len(), 10, "{met:?}");
 }
 
-/// For each value of a grid's nodes which of its limits are met: at −1 and 1 the limit of that
-/// sign, at −2 and 2 one past it.
-fn limits_of_nodes<const VALUES: usize>(grid: &Grid<VALUES>) -> Vec<(usize, i128)> {
-    let places = |lines: u32| (0..lines).map(i128::from);
-    let nodes = places(grid.geometry.rows)
-        .flat_map(|row| places(grid.geometry.columns).map(move |column| (row, column)))
-        .map(|(row, column)| grid.node(row, column));
-    let mut met = Vec::new();
-    for node in nodes {
-        for (value, limit) in grid.limits.into_iter().enumerate() {
-            let stands = i128::from(node[value]);
-            let past = stands.abs() - limit;
-            if past == 0 || past == 1 {
-                met.push((value, stands.signum() * (past + 1)));
-            }
-        }
-    }
-    met
-}
-
 #[test]
 fn nodes_stand_at_and_past_each_limit_in_each_grid() {
     let mut met = BTreeSet::new();
@@ -135,6 +118,7 @@ fn nodes_stand_at_and_past_each_limit_in_each_grid() {
         let Ok(Image::TwoGrids {
             corrections,
             heights,
+            ..
         }) = open_image(&image)
         else {
             continue;

@@ -1,9 +1,9 @@
 //! Where 15 stands among the other numbers, and where points lie to the height grid.
 
 use super::STREAM;
-use crate::made_up::{for_each_point, place_by_bounds};
+use crate::made_up::{fix, for_each_point, number_of, place_by_bounds};
 use compare::{points_until_the_stop, stop_rule_holds, Way};
-use reference::{way_back, way_out, Fix, Number, Point};
+use reference::{way_back, way_out, Number, Point};
 use std::collections::BTreeSet;
 
 /// The way out's number where the image is fit and the point in the bounds, with what 15 has to
@@ -17,20 +17,11 @@ fn ends_of_the_way_out() -> BTreeSet<(Number, bool, bool, bool)> {
         let (Some(first), Some(last)) = (points.first(), points.last()) else {
             return;
         };
-        let stops = points.len() > 1 && stop_rule_holds(points[points.len() - 2], *last);
+        let stops = points.len() > 1 && stop_rule_holds(1, points[points.len() - 2], *last);
         let number = number_of(way_out(image, fix(point)));
         ends.insert((number, on(first), on(last), stops));
     });
     ends
-}
-
-fn fix(point: Point) -> Fix {
-    Fix { point, height: 0 }
-}
-
-/// The number, 0 for values.
-fn number_of<T>(result: Result<T, Number>) -> Number {
-    result.err().unwrap_or(0)
 }
 
 #[test]
@@ -102,7 +93,7 @@ fn ways_out_end_on_and_beside_every_bound_of_the_height_grid() {
     for_each_point(STREAM, Way::Out, |image, point| {
         let points = points_until_the_stop(image, point);
         if let [.., before, last] = points.as_slice() {
-            if stop_rule_holds(*before, *last) {
+            if stop_rule_holds(1, *before, *last) {
                 places.insert(place_by_bounds(image.height_geometry(), *last));
             }
         }

@@ -1,6 +1,6 @@
 //! The floats of the made-up files that are converted.
 
-use super::{files, fit_angles, fit_files};
+use super::{files, fit_angles, fit_files, values_of};
 use compare::Format;
 use reference::{is_negative, Exact, Fraction, Width, DOUBLE, SINGLE};
 use std::collections::BTreeSet;
@@ -50,7 +50,7 @@ fn values_of_every_kind_and_sign_are_converted() {
         let layout = format.layout();
         let mut met = BTreeSet::new();
         for file in fit_files(format) {
-            for value in file.values() {
+            for value in values_of(&file) {
                 let kind = kind(SINGLE, value.bits, layout.value_scale);
                 met.insert((value.name, kind, is_negative(SINGLE, value.bits)));
             }
@@ -109,9 +109,8 @@ fn values_stand_at_their_limit_and_one_bit_past_it() {
         let mut met = BTreeSet::new();
         for file in files(format) {
             let noted = first_unfit - 2..=first_unfit + 1;
-            let values = file
-                .values()
-                .filter(|it| noted.contains(&(it.bits % (1 << 31))));
+            let values = values_of(&file).into_iter();
+            let values = values.filter(|it| noted.contains(&(it.bits % (1 << 31))));
             met.extend(values.map(|it| (it.name, it.bits)));
         }
         assert_eq!(met.len(), 8 * format.layout().values.len(), "{met:?}");

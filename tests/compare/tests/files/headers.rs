@@ -101,7 +101,7 @@ fn large_counts_and_negative_ones_occur_in_vdatum_files() {
 fn vdatum_files_without_nodes_occur_whose_node_bytes_are_0_if_cut() {
     for count in [65_536, i32::MIN] {
         let large = |header: FileHeader| (header.rows, header.columns) == (count, count);
-        let without_nodes = |file: &File| (file.bytes.len(), file.buffer_length) == (40, 0);
+        let without_nodes = |file: &File| (file.bytes.len(), file.buffer_lengths[0]) == (40, 0);
         let mut files = files(Format::Vdatum).filter(without_nodes);
         assert!(files.any(|file| FileHeader::read(&file.bytes).is_some_and(large)));
     }
@@ -124,11 +124,17 @@ fn converted_files_reach_the_limits_of_the_geometry() {
     for format in Format::ALL {
         let mut met = BTreeSet::new();
         for file in fit_files(format) {
-            let geometry = file.converted().expect("a fit file").geometry;
             let names = ["south", "west", "P", "Q", "rows", "columns"];
-            met.extend(names.into_iter().zip(geometry_numbers(&geometry)));
+            for (grid, converted) in file.converted().expect("a fit file").iter().enumerate() {
+                let numbers = names.into_iter().zip(geometry_numbers(&converted.geometry));
+                met.extend(numbers.map(|(name, number)| (grid, name, number)));
+            }
         }
-        assert!(wanted.iter().all(|it| met.contains(it)), "{met:?}");
+        for grid in 0..format.layout().geometry_numbers / 6 {
+            let mut wanted = wanted.iter();
+            let is_met = |(name, number): &(_, i64)| met.contains(&(grid, *name, *number));
+            assert!(wanted.all(is_met), "{grid} {met:?}");
+        }
     }
 }
 
@@ -136,11 +142,17 @@ fn converted_files_reach_the_limits_of_the_geometry() {
 fn a_full_run_converts_a_large_file() {
     let index = (0..FULL_RUN).find(|index| has_large_file(*index));
     let index = index.expect("a case");
-    for (format, columns) in [(Format::Vdatum, 4_096), (Format::Ntv2, 256)] {
+    for (format, sizes) in [
+        (Format::Vdatum, &[(4_096, 4_096)][..]),
+        (Format::Ntv2, &[(4_096, 256), (16, 4_096)]),
+    ] {
         let Call::ConvertFile(file) = Stream::Files(format).call(SEED, index) else {
             panic!("another call");
         };
-        let geometry = file.converted().expect("a fit file").geometry;
-        assert_eq!((geometry.rows, geometry.columns), (4_096, columns));
+        let grids = file.converted().expect("a fit file");
+        let found = grids
+            .iter()
+            .map(|it| (it.geometry.rows, it.geometry.columns));
+        assert_eq!(found.collect::<Vec<(u32, u32)>>(), sizes);
     }
 }

@@ -6,6 +6,7 @@ mod floats;
 mod headers;
 mod ntv2;
 mod refusals;
+mod subgrids;
 
 use crate::made_up::calls;
 use compare::{Call, File, FileAxis, Float, Format, Stream};
@@ -25,12 +26,25 @@ fn fit_files(format: Format) -> impl Iterator<Item = File> {
 
 /// The axes of those that are long enough.
 fn axes(format: Format) -> impl Iterator<Item = FileAxis> {
-    files(format).filter_map(|file| file.axes()).flatten()
+    files(format).flat_map(|file| axes_of(&file))
+}
+
+/// The axes of all grids that a file has.
+fn axes_of(file: &File) -> Vec<FileAxis> {
+    let grids = file.grids().unwrap_or_default();
+    grids.into_iter().flat_map(|it| it.axes).collect()
+}
+
+/// The values of all its grids.
+fn values_of(file: &File) -> Vec<Float> {
+    let grids = file.grids().unwrap_or_default();
+    let values = grids.iter().flat_map(|it| file.values_of(it));
+    values.collect()
 }
 
 /// Bounds and spacings of the files that are converted.
 fn fit_angles(format: Format) -> impl Iterator<Item = Float> {
-    let axes = fit_files(format).filter_map(|file| file.axes()).flatten();
+    let axes = fit_files(format).flat_map(|file| axes_of(&file));
     axes.flat_map(|axis| axis.floats().collect::<Vec<Float>>())
 }
 

@@ -1,7 +1,9 @@
 //! The made-up calls of a stream, and what can be said of their grids and points.
 
 use compare::{Call, Stream, Way};
-use reference::{grid_check, open_image, Fraction, Geometry, Image, Point, DEGREE};
+use reference::{
+    grid_check, open_image, Fix, Fraction, Geometry, Grid, Image, Number, Point, DEGREE,
+};
 use std::cmp::Ordering;
 use std::collections::BTreeSet;
 
@@ -103,4 +105,62 @@ fn limits_met(geometry: &Geometry) -> impl Iterator<Item = &'static str> {
         ("180 east", degrees(geometry.east()) == 180),
     ];
     events.into_iter().filter(|(_, met)| *met).map(|it| it.0)
+}
+
+/// The first of questions 3 to 5 whose answer is no, or else 6.
+pub fn question(geometry: &Geometry) -> i32 {
+    match geometry {
+        _ if !geometry.counts_fit() => 3,
+        _ if !geometry.spacings_fit() => 4,
+        _ if !geometry.bounds_fit() => 5,
+        _ => 6,
+    }
+}
+
+/// Which fields of a geometry make it unfit: with a small number in its place, the answer to the
+/// same question is yes.
+pub fn broken_fields(geometry: Geometry) -> Vec<&'static str> {
+    let fields: [(_, fn(&mut Geometry)); 6] = [
+        ("south", |it| it.south = 0),
+        ("west", |it| it.west = 0),
+        ("latitude spacing", |it| it.latitude_spacing = 2),
+        ("longitude spacing", |it| it.longitude_spacing = 2),
+        ("rows", |it| it.rows = 2),
+        ("columns", |it| it.columns = 2),
+    ];
+    let is_broken = |mend: fn(&mut Geometry)| {
+        let mut mended = geometry;
+        mend(&mut mended);
+        question(&mended) > question(&geometry)
+    };
+    let broken = fields.into_iter().filter(|(_, mend)| is_broken(*mend));
+    broken.map(|(name, _)| name).collect()
+}
+
+/// For each value of a grid's nodes which of its limits are met: at −1 and 1 the limit of that
+/// sign, at −2 and 2 one past it.
+pub fn limits_of_nodes<const VALUES: usize>(grid: &Grid<VALUES>) -> Vec<(usize, i128)> {
+    let places = grid.geometry.node_places();
+    let nodes = places.map(|(row, column)| grid.node(row, column));
+    let mut met = Vec::new();
+    for node in nodes {
+        for (value, limit) in grid.limits.into_iter().enumerate() {
+            let stands = i128::from(node[value]);
+            let past = stands.abs() - limit;
+            if past == 0 || past == 1 {
+                met.push((value, stands.signum() * (past + 1)));
+            }
+        }
+    }
+    met
+}
+
+/// A fix at a point, with height 0.
+pub fn fix(point: Point) -> Fix {
+    Fix { point, height: 0 }
+}
+
+/// The number, 0 for values.
+pub fn number_of<T>(result: Result<T, Number>) -> Number {
+    result.err().unwrap_or(0)
 }

@@ -1,21 +1,15 @@
 //! The conversion of a file with a slip.
 
 use super::FileSlip;
-use compare::{causes, geometry_numbers, File, Format};
-use reference::{convert_ntv2, convert_vdatum, text, Converted, Number, Records, LABELS};
+use compare::{causes, File, FileRoom, Format, GridOfFile};
+use reference::{convert_ntv2, convert_vdatum, Converted, Number, GRID_LABELS, OVERVIEW_LABELS};
 use std::ops::Range;
 
 impl FileSlip {
-    pub fn convert(
-        self,
-        format: Format,
-        file: &mut [u8],
-        nodes: &mut [u8],
-        geometry: &mut [i64; 6],
-    ) -> Number {
-        let seen = self.file_seen(format, file, nodes.len());
+    pub fn convert(self, format: Format, file: &mut [u8], mut room: FileRoom) -> Number {
+        let seen = self.file_seen(format, file, room.buffer_lengths());
         match self {
-            FileSlip::GeometryCleared => geometry.fill(0),
+            FileSlip::GeometryCleared => room.geometry.fill(0),
             FileSlip::FileWritten => file.iter_mut().take(1).for_each(|byte| *byte ^= 1),
             _ => {}
         }
@@ -23,81 +17,126 @@ impl FileSlip {
             return number;
         }
         match self.converted(&seen) {
-            Ok(converted) => {
-                let stored = self.nodes_stored(format, &converted);
-                nodes[..stored.len()].copy_from_slice(&stored);
-                *geometry = geometry_numbers(&converted.geometry);
+            Ok(grids) => {
+                let stored = grids.iter().map(|grid| Converted {
+                    nodes: self.nodes_stored(format, grid),
+                    ..*grid
+                });
+                store(&stored.collect::<Vec<Converted>>(), &mut room);
                 0
             }
             Err(number) => {
                 if number == format.layout().refusals[1] {
-                    self.write_before_the_nodes_are_asked(&seen, nodes, geometry);
+                    self.write_before_the_nodes_are_asked(&seen, &mut room);
                 }
                 number
             }
         }
     }
 
-    fn converted(self, seen: &File) -> Result<Converted, Number> {
-        let (file, buffer_length) = (&seen.bytes, seen.buffer_length);
+    fn converted(self, seen: &File) -> Result<Vec<Converted>, Number> {
+        let (file, lengths) = (&seen.bytes, seen.buffer_lengths);
         let nearest = |width, bits, scale| self.nearest(width, bits, scale);
         let turned = |width, bits, scale| self.nearest_turned(width, bits, scale);
         match seen.format {
-            Format::Vdatum => convert_vdatum(file, buffer_length, nearest),
-            Format::Ntv2 => convert_ntv2(file, buffer_length, nearest, turned),
+            Format::Vdatum => convert_vdatum(file, lengths[0], nearest).map(|it| vec![it]),
+            Format::Ntv2 => convert_ntv2(file, lengths, nearest, turned),
         }
     }
 
-    /// File and buffer as the slip lets them look.
-    fn file_seen(self, format: Format, file: &[u8], buffer_length: usize) -> File {
+    /// File and buffers as the slip lets them look.
+    fn file_seen(self, format: Format, file: &[u8], buffer_lengths: [usize; 2]) -> File {
         let mut seen = File {
             format,
             bytes: file.to_vec(),
-            buffer_length,
+            buffer_lengths,
         };
         let layout = format.layout();
-        if seen.axes().is_some() {
-            self.change_bytes(&mut seen);
+        if let Some(grids) = seen.grids() {
+            self.change_bytes(&mut seen, &grids);
         }
         if self == FileSlip::LongerFileTaken && file.len() % layout.node == 1 {
             seen.bytes.pop();
         }
-        if self == FileSlip::LongerBufferTaken && buffer_length % layout.buffer_node == 1 {
-            seen.buffer_length -= 1;
+        if self == FileSlip::LongerBufferTaken && buffer_lengths[0] % layout.buffer_node == 1 {
+            seen.buffer_lengths[0] -= 1;
         }
         seen
     }
 
     /// Changes the bytes of a file with its headers to what the slip takes them for.
-    fn change_bytes(self, file: &mut File) {
-        let (nodes, last) = (nodes_of(file), last_node(file));
-        let format = file.format;
-        let is_last_unfit = last_is_unfit(file);
-        let bytes = &mut file.bytes;
+    fn change_bytes(self, file: &mut File, grids: &[GridOfFile]) {
+        let last = grids.last().filter(|it| last_is_unfit(file, it));
+        if let (FileSlip::LastNodeNotAsked, Some(last)) = (self, last) {
+            let nodes = last.nodes.clone();
+            let first = nodes.end.saturating_sub(file.format.layout().node);
+            file.bytes[nodes.start.max(first)..nodes.end].fill(0);
+        }
+        match file.format {
+            Format::Vdatum => self.change_vdatum_header(&mut file.bytes),
+            Format::Ntv2 => self.change_overview(&mut file.bytes),
+        }
+        for grid in grids {
+            if file.format == Format::Ntv2 {
+                self.change_header(&mut file.bytes[grid.header_bytes()]);
+            }
+            self.change_nodes(&mut file.bytes[grid.nodes.clone()]);
+        }
+    }
+
+    fn change_vdatum_header(self, bytes: &mut [u8]) {
         match self {
             FileSlip::HeadersReversed => {
-                header_numbers(format).for_each(|it| bytes[it].reverse());
+                bytes[..32].chunks_mut(8).for_each(<[u8]>::reverse);
+                bytes[32..40].chunks_mut(4).for_each(<[u8]>::reverse);
             }
-            FileSlip::NodesReversed => bytes[nodes].chunks_mut(4).for_each(<[u8]>::reverse),
-            FileSlip::SpacingsSwapped if format == Format::Vdatum => bytes[16..32].rotate_left(8),
-            FileSlip::SpacingsSwapped => swap(bytes, "LAT_INC", "LONG_INC"),
-            FileSlip::EastAndWestSwapped => swap(bytes, "E_LONG", "W_LONG"),
+            FileSlip::SpacingsSwapped => bytes[16..32].rotate_left(8),
             FileSlip::SouthAndWestSwapped => bytes[..16].rotate_left(8),
             FileSlip::RowsAndColumnsSwapped => bytes[32..40].rotate_left(4),
-            FileSlip::RowsByTheColumnSpacing => {
-                bytes.copy_within(value_of("LONG_INC"), value_of("LAT_INC").start);
+            _ => {}
+        }
+    }
+
+    fn change_overview(self, bytes: &mut [u8]) {
+        match self {
+            FileSlip::HeadersReversed => {
+                for count in [8, 24, 40] {
+                    bytes[count..count + 4].reverse();
+                }
             }
+            FileSlip::FillingNotAsked => fill(&mut bytes[..16 * OVERVIEW_LABELS.len()]),
+            _ => {}
+        }
+    }
+
+    /// The header of an NTv2 file's grid.
+    fn change_header(self, header: &mut [u8]) {
+        match self {
+            FileSlip::HeadersReversed => {
+                GRID_LABELS[4..10]
+                    .iter()
+                    .for_each(|label| header[value_of(label)].reverse());
+                let count = value_of("GS_COUNT").start;
+                header[count..count + 4].reverse();
+            }
+            FileSlip::SpacingsSwapped => swap(header, "LAT_INC", "LONG_INC"),
+            FileSlip::EastAndWestSwapped => swap(header, "E_LONG", "W_LONG"),
+            FileSlip::RowsByTheColumnSpacing => {
+                header.copy_within(value_of("LONG_INC"), value_of("LAT_INC").start);
+            }
+            FileSlip::FillingNotAsked => fill(header),
+            _ => {}
+        }
+    }
+
+    fn change_nodes(self, nodes: &mut [u8]) {
+        match self {
+            FileSlip::NodesReversed => nodes.chunks_mut(4).for_each(<[u8]>::reverse),
             FileSlip::AccuracyForShift => {
-                bytes[nodes]
+                nodes
                     .chunks_exact_mut(16)
                     .for_each(|it| it.copy_within(8..12, 4));
             }
-            FileSlip::FillingNotAsked => {
-                let labels = bytes.chunks_exact_mut(16).take(LABELS.len() - 1);
-                let filled = labels.flat_map(|it| it[..8].iter_mut().filter(|byte| **byte == 0));
-                filled.for_each(|byte| *byte = b' ');
-            }
-            FileSlip::LastNodeNotAsked if is_last_unfit => bytes[last].fill(0),
             _ => {}
         }
     }
@@ -111,22 +150,17 @@ impl FileSlip {
                 unfit.then_some(of_nodes)
             }
             FileSlip::NotAsked(cause) => (causes(seen) == [cause]).then_some(0),
-            FileSlip::ParentRead | FileSlip::NoneRefused => {
-                let parent = Records::read(&seen.bytes)?.value("PARENT");
-                let is_none = parent == text("NONE");
-                (is_none == (self == FileSlip::NoneRefused)).then_some(of_file)
-            }
             FileSlip::LongCounts => {
-                let records = Records::read(&seen.bytes)?;
-                let counts = ["NUM_OREC", "NUM_SREC", "NUM_FILE", "GS_COUNT"];
-                let long = counts.iter().any(|it| records.value(it)[4..] != [0; 4]);
+                let overview = seen.overview()?;
+                let counts = ["NUM_OREC", "NUM_SREC", "NUM_FILE"];
+                let long = counts.iter().any(|it| overview.value(it)[4..] != [0; 4]);
                 long.then_some(of_file)
             }
             _ => None,
         }
     }
 
-    /// The bytes that the buffer gets.
+    /// The bytes that a grid's buffer gets.
     fn nodes_stored(self, format: Format, converted: &Converted) -> Vec<u8> {
         let mut stored = converted.nodes.clone();
         let node = format.layout().buffer_node;
@@ -145,81 +179,77 @@ impl FileSlip {
     }
 
     /// What the slip writes although a node is refused.
-    fn write_before_the_nodes_are_asked(
-        self,
-        seen: &File,
-        nodes: &mut [u8],
-        geometry: &mut [i64; 6],
-    ) {
+    fn write_before_the_nodes_are_asked(self, seen: &File, room: &mut FileRoom) {
         match self {
             FileSlip::RowsWrittenAtOnce => {
-                let rows = before_the_unfit_node(seen).nodes;
-                nodes[..rows.len()].copy_from_slice(&rows);
+                let unwritten = room.geometry.to_vec();
+                store(&before_the_unfit_node(seen), room);
+                room.geometry.copy_from_slice(&unwritten);
             }
             FileSlip::GeometryWrittenBeforeNodes => {
-                *geometry = geometry_numbers(&before_the_unfit_node(seen).geometry);
+                room.store_geometry(&before_the_unfit_node(seen));
             }
             _ => {}
         }
     }
 }
 
-/// What a file that is refused for its nodes gives before the row of the first unfit one.
-fn before_the_unfit_node(file: &File) -> Converted {
+/// Stores what the grids give, whose nodes may be too few for their buffers.
+fn store(grids: &[Converted], room: &mut FileRoom) {
+    let buffers = [&mut *room.nodes, &mut *room.dense];
+    for (buffer, grid) in buffers.into_iter().zip(grids) {
+        buffer[..grid.nodes.len()].copy_from_slice(&grid.nodes);
+    }
+    room.store_geometry(grids);
+}
+
+/// What a file that is refused for its nodes gives before the row of the first unfit one: its
+/// grids, with the nodes of these rows alone.
+fn before_the_unfit_node(file: &File) -> Vec<Converted> {
     let layout = file.format.layout();
-    let unfit = file.values().position(|it| !layout.allows(it));
-    let fit_nodes = unfit.expect("an unfit node") / layout.values.len();
-    let nodes = nodes_of(file);
-    let mut fit = file.clone();
-    fit.bytes[nodes.start + fit_nodes * layout.node..nodes.end].fill(0);
+    let (grids, mut fit) = (file.grids().expect("a file with nodes"), file.clone());
+    let mut fit_nodes = Vec::new();
+    for grid in &grids {
+        let unfit = file.values_of(grid).position(|it| !layout.allows(it));
+        let count = unfit.map(|it| it / layout.values.len());
+        let count = count.unwrap_or(grid.nodes.len() / layout.node);
+        fit.bytes[grid.nodes.start + count * layout.node..grid.nodes.end].fill(0);
+        fit_nodes.push(count);
+    }
     let mut converted = fit.converted().expect("a fit file");
-    let columns = converted.geometry.columns as usize;
-    let rows = fit_nodes / columns;
-    converted
-        .nodes
-        .truncate(rows * columns * layout.buffer_node);
+    let mut all_fit = true;
+    for (grid, count) in converted.iter_mut().zip(fit_nodes) {
+        let columns = grid.geometry.columns as usize;
+        let rows = if all_fit { count / columns } else { 0 };
+        all_fit &= count as i128 == grid.geometry.nodes();
+        grid.nodes.truncate(rows * columns * layout.buffer_node);
+    }
     converted
 }
 
-/// Where the numbers of the headers stand.
-fn header_numbers(format: Format) -> impl Iterator<Item = Range<usize>> {
-    let (doubles, counts) = match format {
-        Format::Vdatum => (vec![0, 8, 16, 24], vec![32, 36]),
-        Format::Ntv2 => (vec![248, 264, 280, 296, 312, 328], vec![8, 24, 40, 344]),
-    };
-    let doubles = doubles.into_iter().map(|at| at..at + 8);
-    doubles.chain(counts.into_iter().map(|at| at..at + 4))
-}
-
-/// Where the value of an NTv2 file's record stands.
+/// Where the value of a record stands in a grid's header.
 fn value_of(label: &str) -> Range<usize> {
-    let place = LABELS.iter().position(|it| *it == label);
+    let place = GRID_LABELS.iter().position(|it| *it == label);
     let at = 16 * place.expect("a label") + 8;
     at..at + 8
 }
 
-/// Exchanges the values of two records.
-fn swap(bytes: &mut [u8], one: &str, other: &str) {
+/// Exchanges the values of two records of a grid's header.
+fn swap(header: &mut [u8], one: &str, other: &str) {
     for (one, other) in value_of(one).zip(value_of(other)) {
-        bytes.swap(one, other);
+        header.swap(one, other);
     }
 }
 
-/// Where the nodes stand in a file that has its headers.
-fn nodes_of(file: &File) -> Range<usize> {
-    let layout = file.format.layout();
-    layout.headers..file.bytes.len() - layout.end
+/// Fills the labels of records with spaces in place of zeros.
+fn fill(records: &mut [u8]) {
+    let labels = records.chunks_exact_mut(16).map(|it| &mut it[..8]);
+    let zeros = labels.flat_map(|it| it.iter_mut().filter(|byte| **byte == 0));
+    zeros.for_each(|byte| *byte = b' ');
 }
 
-/// Where the last node stands, if there is one.
-fn last_node(file: &File) -> Range<usize> {
-    let nodes = nodes_of(file);
-    let first = nodes.end.saturating_sub(file.format.layout().node);
-    nodes.start.max(first)..nodes.end
-}
-
-fn last_is_unfit(file: &File) -> bool {
+fn last_is_unfit(file: &File, grid: &GridOfFile) -> bool {
     let layout = file.format.layout();
-    let mut last = file.values().rev().take(layout.values.len());
+    let mut last = file.values_of(grid).rev().take(layout.values.len());
     last.any(|it| !layout.allows(it))
 }

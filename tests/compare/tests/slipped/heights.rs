@@ -40,6 +40,7 @@ fn with_the_correction_limit(image: &Image, point: Point) -> Result<Fraction, Nu
         Image::TwoGrids {
             corrections,
             heights,
+            ..
         } if heights.geometry.contains(point) => {
             let mut lenient = *heights;
             lenient.limits = [corrections.limits[0]];
@@ -51,7 +52,7 @@ fn with_the_correction_limit(image: &Image, point: Point) -> Result<Fraction, Nu
 }
 
 /// The point of a grid that is nearest to a point.
-fn nearest(geometry: &Geometry, point: Point) -> Point {
+pub fn nearest(geometry: &Geometry, point: Point) -> Point {
     let (south, west) = (geometry.south.into(), geometry.west.into());
     Point {
         latitude: point.latitude.clamp(south, geometry.north()),

@@ -13,7 +13,7 @@ fn trailer_of(image: &[u8]) -> Option<TwoGridTrailer> {
 }
 
 /// The image with a changed trailer.
-fn with_trailer(image: &[u8], change: impl Fn(&mut TwoGridTrailer)) -> Vec<u8> {
+pub fn with_trailer(image: &[u8], change: impl Fn(&mut TwoGridTrailer)) -> Vec<u8> {
     let Some(mut trailer) = trailer_of(image) else {
         return image.to_vec();
     };
@@ -78,7 +78,7 @@ impl TwoGridSlip {
 }
 
 /// The first of questions 3 to 5 whose answer is no.
-fn question_of(geometry: Geometry) -> Option<Number> {
+pub fn question_of(geometry: Geometry) -> Option<Number> {
     let answers = [
         (3, geometry.counts_fit()),
         (4, geometry.spacings_fit()),

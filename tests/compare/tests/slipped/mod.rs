@@ -1,15 +1,26 @@
 //! A converter that behaves as the reference but for one planted slip.
 
+mod dense;
+mod dense_check;
+mod dense_images;
+mod dense_slip;
+mod file_slip;
 mod files;
 mod floats;
 mod heights;
 mod images;
 mod slip;
+mod subgrid_slip;
+mod subgrids;
 mod ways;
 
-use compare::{Converter, Format, Reference, Way};
+use compare::{Converter, FileRoom, Format, Reference, Way};
+use dense_images::lies_wrong;
+pub use dense_slip::{DenseSlip, Side};
+pub use file_slip::FileSlip;
 use reference::{convert_list, Axis, Notation, Number};
-pub use slip::{FileSlip, Slip, TwoGridSlip};
+pub use slip::{Slip, TwoGridSlip};
+pub use subgrid_slip::SubgridSlip;
 
 pub struct Slipped(pub Slip);
 
@@ -24,12 +35,29 @@ impl Slipped {
 
     /// The image as the slip lets it look, or the number that the slip gives it at once.
     fn opened(&self, image: &[u8]) -> Result<Vec<u8>, Number> {
-        let Slip::TwoGrids(slip) = self.0 else {
-            return Ok(image.to_vec());
+        let (number, seen) = match self.0 {
+            Slip::TwoGrids(slip) => (slip.number_seen(image), slip.image_seen(image)),
+            Slip::Dense(slip) => (slip.number_seen(image), slip.image_seen(image)),
+            _ => (None, image.to_vec()),
         };
-        match slip.number_seen(image) {
-            Some(number) => Err(number),
-            None => Ok(slip.image_seen(image)),
+        number.map_or(Ok(seen), Err)
+    }
+
+    /// The same for a list, which has so many numbers.
+    fn opened_for_list(
+        &self,
+        image: &[u8],
+        fixes: usize,
+        answers: usize,
+    ) -> Result<Vec<u8>, Number> {
+        let Slip::Dense(slip) = self.0 else {
+            return self.opened(image);
+        };
+        let lengths_fit = fixes % 3 == 0 && 5 * fixes == 3 * answers;
+        match slip {
+            DenseSlip::TwentyAfterFourteen if lies_wrong(image) && !lengths_fit => Err(14),
+            DenseSlip::TwentyInTheCheckAlone => Ok(DenseSlip::TwentyNotAsked.image_seen(image)),
+            _ => self.opened(image),
         }
     }
 }
@@ -45,6 +73,7 @@ impl Converter for Slipped {
         };
         let number = match self.0 {
             Slip::TwoGrids(slip) => slip.grid_check(&mut image, findings),
+            Slip::Dense(slip) => slip.grid_check(&mut image, findings),
             _ => Reference.grid_check(&mut image, findings),
         };
         if number == 0 && self.has(Slip::ConstantFindings) {
@@ -60,7 +89,8 @@ impl Converter for Slipped {
             Slip::FixWritten => fixes.iter_mut().take(1).for_each(|angle| *angle ^= 1),
             _ => {}
         }
-        let converted = self.opened(image).and_then(|image| {
+        let opened = self.opened_for_list(image, fixes.len(), answers.len());
+        let converted = opened.and_then(|image| {
             convert_list(&image, fixes, answers.len(), |image, fix| match way {
                 Way::Out => self.way_out(image, fix),
                 Way::Back => self.way_back(image, fix),
@@ -107,16 +137,11 @@ impl Converter for Slipped {
         number
     }
 
-    fn convert_file(
-        &self,
-        format: Format,
-        file: &mut [u8],
-        nodes: &mut [u8],
-        geometry: &mut [i64; 6],
-    ) -> Number {
+    fn convert_file(&self, format: Format, file: &mut [u8], room: FileRoom) -> Number {
         match self.0 {
-            Slip::Files(slip) => slip.convert(format, file, nodes, geometry),
-            _ => Reference.convert_file(format, file, nodes, geometry),
+            Slip::Files(slip) => slip.convert(format, file, room),
+            Slip::Subgrid(slip) => slip.convert(file, room),
+            _ => Reference.convert_file(format, file, room),
         }
     }
 }

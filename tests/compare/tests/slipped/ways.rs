@@ -12,7 +12,7 @@ impl Slipped {
         if self.has_two_grid(TwoGridSlip::FifteenBeforeNine) {
             on_the_height_grid(image, fix.point)?;
         }
-        let corrections = self.corrections(image, fix.point)?;
+        let corrections = self.corrections(image, &[fix.point])?;
         Ok(Answer {
             point: moved(fix.point, corrections, 1),
             height: fix.height + self.height(image, fix.point)?,
@@ -29,10 +29,10 @@ impl Slipped {
         let mut way = vec![fix.point];
         while way.len() <= evaluations {
             let here = way[way.len() - 1];
-            let next = moved(fix.point, self.corrections(image, here)?, -1);
-            let stops = stop_rule_holds(here, next) || self.has(Slip::SingleSubtraction);
+            let next = moved(fix.point, self.corrections(image, &way)?, -1);
+            let stops = self.stops(image, here, next) || self.has(Slip::SingleSubtraction);
             let asked_later = stops && self.has(Slip::StopTestBeforeTheBounds);
-            if !image.in_bounds(next) && !asked_later {
+            if !self.is_next_in_bounds(image, fix.point, next) && !asked_later {
                 return Err(10);
             }
             if stops {
@@ -55,7 +55,7 @@ impl Slipped {
     /// The way out's answer once the stop rule has held.
     fn answer(&self, image: &Image, fix: Fix, last: Point, count: usize) -> Result<Answer, Number> {
         if self.has_two_grid(TwoGridSlip::LastCorrectionCellAsked) {
-            self.corrections(image, last)?;
+            self.corrections(image, &[last])?;
         }
         let height_at = if self.has(Slip::HeightAtTheFix) {
             fix.point
@@ -78,7 +78,7 @@ impl Slipped {
     /// The number of a way out that did not stop.
     fn not_settled(&self, image: &Image, last: Point) -> Result<Answer, Number> {
         if self.has(Slip::CellOfP5AlwaysUsed) {
-            self.corrections(image, last)?;
+            self.corrections(image, &[last])?;
         }
         if self.has_two_grid(TwoGridSlip::FifteenBeforeEleven) {
             on_the_height_grid(image, last)?;
@@ -86,7 +86,9 @@ impl Slipped {
         Err(11)
     }
 
-    fn corrections(&self, image: &Image, point: Point) -> Result<[i128; 2], Number> {
+    /// The corrections at the last point of a way.
+    fn corrections(&self, image: &Image, way: &[Point]) -> Result<[i128; 2], Number> {
+        let point = way[way.len() - 1];
         match self.0 {
             Slip::NorthernBound(number) if is_northern(image, point) => return Err(number),
             Slip::TwoGrids(TwoGridSlip::FifteenAtEveryStep) => on_the_height_grid(image, point)?,
@@ -97,8 +99,26 @@ impl Slipped {
             }
             _ => {}
         }
-        let exact = image.exact_corrections(point)?;
+        let exact = match self.0 {
+            Slip::Dense(slip) => slip.exact_corrections(image, way)?,
+            _ => image.exact_corrections(point)?,
+        };
         Ok(exact.map(|it| self.rounded(it)))
+    }
+
+    fn stops(&self, image: &Image, here: Point, next: Point) -> bool {
+        match self.0 {
+            Slip::Dense(slip) => slip.stops(image, here, next),
+            _ => stop_rule_holds(image.stop_distance(), here, next),
+        }
+    }
+
+    /// Question 10.
+    fn is_next_in_bounds(&self, image: &Image, fix: Point, next: Point) -> bool {
+        match self.0 {
+            Slip::Dense(slip) => slip.is_next_in_bounds(image, fix, next),
+            _ => image.in_bounds(next),
+        }
     }
 
     fn height(&self, image: &Image, point: Point) -> Result<i128, Number> {

@@ -1,6 +1,6 @@
 //! The shifts: the order of the nodes, the sign, the rounding, and each cause of 19 at each node.
 
-use crate::files::{corrections, small_file};
+use crate::files::{corrections, grid_after};
 use reference::{Number, ShiftNode};
 
 const NEGATIVE: u32 = 1 << 31;
@@ -9,9 +9,7 @@ const LAST_FIT: u32 = 0x4210_0000;
 const FIRST_UNFIT: u32 = LAST_FIT + 1;
 
 fn converted(nodes: [ShiftNode; 6]) -> Result<Vec<[i32; 2]>, Number> {
-    let mut file = small_file();
-    file.nodes = nodes.to_vec();
-    file.converted().map(|it| corrections(&it))
+    grid_after(|it| it.nodes = nodes.to_vec()).map(|it| corrections(&it))
 }
 
 /// The correction that a shift becomes in one of the file's nodes, the others having none: a
@@ -51,11 +49,10 @@ fn the_sign_of_a_longitude_shift_is_turned_before_it_is_rounded() {
 
 #[test]
 fn the_buffer_is_little_endian() {
-    let mut file = small_file();
     // 36 arcseconds in the south-east, the third of our nodes: 10,000,000 is 98 96 80 in
     // hexadecimal.
-    file.nodes[0] = [LAST_FIT, LAST_FIT, 0, 0];
-    let nodes = file.converted().expect("a fit file").nodes;
+    let grid = grid_after(|it| it.nodes[0] = [LAST_FIT, LAST_FIT, 0, 0]);
+    let nodes = grid.expect("a fit file").nodes;
     assert_eq!(nodes.len(), 48);
     assert_eq!(nodes[16..24], [0x80, 0x96, 0x98, 0, 0x80, 0x69, 0x67, 0xFF]);
 }

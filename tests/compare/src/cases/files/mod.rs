@@ -37,7 +37,7 @@ pub fn call(format: Format, seed: u64, index: u64) -> Call {
         (Format::Ntv2, true) => ntv2::large(random).exact(),
         (Format::Ntv2, false) => {
             let made = ntv2::fit(random);
-            any_file(random, made, [34, 43, 78, 85, 87, 88])
+            any_file(random, made, [30, 39, 74, 81, 83, 84])
         }
     })
 }

@@ -5,6 +5,7 @@ use super::grids::TwoGrids;
 use crate::cases::damage::{
     break_geometry, bytes, near_back, random_nodes, truncated, with_trailer, GEOMETRY_FIELDS,
 };
+use crate::cases::over_grids::Grids;
 use crate::random::Random;
 use reference::{Trailer, TwoGridTrailer};
 
@@ -90,7 +91,7 @@ fn with_broken_trailer(random: &mut Random, grids: &TwoGrids) -> Vec<u8> {
 }
 
 /// Sets one of the trailer's fields to a value at or past its limits, or to any value.
-fn break_field(random: &mut Random, trailer: &mut TwoGridTrailer) {
+pub fn break_field(random: &mut Random, trailer: &mut TwoGridTrailer) {
     let any = random.draw() as u32;
     let field = random.below(GEOMETRY_FIELDS);
     match random.below(20) {
@@ -103,7 +104,7 @@ fn break_field(random: &mut Random, trailer: &mut TwoGridTrailer) {
     }
 }
 
-fn broken_back(random: &mut Random, back: u32) -> u32 {
+pub fn broken_back(random: &mut Random, back: u32) -> u32 {
     let any = random.draw() as u32;
     let near = near_back(random, back, &[1, -1, 4, -4, 8, -8, 40, -40, -80]);
     random.pick(&[near, near, near, 0, 80, u32::MAX, any])

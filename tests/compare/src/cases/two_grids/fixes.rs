@@ -7,24 +7,34 @@ use crate::cases::fixes::{any_angle, any_height, inner_fix};
 use crate::cases::lists::point_of;
 use crate::random::Random;
 use crate::Way;
-use reference::Image;
+use reference::{Geometry, Image};
 
-/// A fix of any kind. Going out, it is often the one that a Bessel point of that kind goes back
-/// to: so the way out ends at or beside this point.
+/// A fix of any kind.
 pub fn any_fix(random: &mut Random, way: Way, grids: &TwoGrids, image: &Image) -> [i64; 3] {
     let corrections = &grids.corrections;
-    let [latitude_correction, longitude_correction] =
-        corrections.nodes[corrections.any_node(random)];
+    let of_some_node = corrections.nodes[corrections.any_node(random)];
     let geometries = [&corrections.geometry, &grids.heights.geometry];
-    let fix = [
-        angle(random, geometries.map(Axis::latitude), latitude_correction),
-        angle(
-            random,
-            geometries.map(Axis::longitude),
-            longitude_correction,
-        ),
+    let fix = fix_along(random, geometries, of_some_node, angle);
+    often_gone_back(random, way, image, fix)
+}
+
+/// A fix whose angles lie along the axes of so many grids, where some node has these corrections.
+pub fn fix_along<const GRIDS: usize>(
+    random: &mut Random,
+    geometries: [&Geometry; GRIDS],
+    [latitude, longitude]: [i32; 2],
+    angle: fn(&mut Random, [Axis; GRIDS], i32) -> i64,
+) -> [i64; 3] {
+    [
+        angle(random, geometries.map(Axis::latitude), latitude),
+        angle(random, geometries.map(Axis::longitude), longitude),
         any_height(random),
-    ];
+    ]
+}
+
+/// The fix. Going out, it is often the one that its Bessel point goes back to: so the way out ends at
+/// or beside this point.
+pub fn often_gone_back(random: &mut Random, way: Way, image: &Image, fix: [i64; 3]) -> [i64; 3] {
     if way == Way::Out && random.chance(60) {
         gone_back(image, fix)
     } else {
@@ -51,19 +61,19 @@ fn angle(random: &mut Random, axes: [Axis; 2], correction: i32) -> i64 {
     match random.below(100) {
         0..40 => any_angle(random, &corrections, correction.into()),
         40..60 => any_angle(random, &heights, correction.into()),
-        60..72 => beside_a_bound(random, &heights),
+        60..72 => beside_a_bound(random, &heights, 1),
         _ => in_common(random, axes)
             .unwrap_or_else(|| any_angle(random, &corrections, correction.into())),
     }
 }
 
-/// An angle on a bound, or 1 nd beside it.
-fn beside_a_bound(random: &mut Random, axis: &Axis) -> i64 {
-    random.pick(&[axis.low, axis.high()]) + random.between(-1, 1)
+/// An angle on a bound, or at most so far beside it.
+pub fn beside_a_bound(random: &mut Random, axis: &Axis, most: i64) -> i64 {
+    random.pick(&[axis.low, axis.high()]) + random.between(-most, most)
 }
 
 /// An angle between the bounds of both axes, if they have one in common.
-fn in_common(random: &mut Random, [one, other]: [Axis; 2]) -> Option<i64> {
+pub fn in_common(random: &mut Random, [one, other]: [Axis; 2]) -> Option<i64> {
     let (low, high) = (one.low.max(other.low), one.high().min(other.high()));
     (low <= high).then(|| random.between(low, high))
 }

@@ -1,11 +1,14 @@
 //! Made-up pairs of grids: corrections as in edition 1, heights on a grid of their own.
 
+use super::fixes::{any_fix, inner_fix_of_both};
 use super::placing::height_geometry;
 use crate::cases::grid::{self, plane_at_the_edge_of_the_check, Grid};
+use crate::cases::over_grids::{spoil_cell, Grids};
 use crate::cases::values::{any_manner, plane, Manner};
 use crate::cases::{geometry, values};
 use crate::random::Random;
-use reference::{write_two_grids, Geometry, TwoGridTrailer};
+use crate::Way;
+use reference::{write_two_grids, Geometry, Image, Point, TwoGridTrailer};
 
 /// Two grids before they are written as an image.
 pub struct TwoGrids {
@@ -19,12 +22,33 @@ impl TwoGrids {
         TwoGridTrailer::over(self.corrections.geometry, self.heights.geometry)
     }
 
-    pub fn image(&self) -> Vec<u8> {
-        write_two_grids(
-            &self.corrections.nodes,
-            &self.heights.nodes,
-            &self.trailer(),
-        )
+    /// The image with a trailer.
+    pub fn image_with(&self, trailer: &TwoGridTrailer) -> Vec<u8> {
+        write_two_grids(&self.corrections.nodes, &self.heights.nodes, trailer)
+    }
+}
+
+impl Grids for TwoGrids {
+    fn image(&self) -> Vec<u8> {
+        self.image_with(&self.trailer())
+    }
+
+    fn any_fix(&self, random: &mut Random, way: Way, image: &Image) -> [i64; 3] {
+        any_fix(random, way, self, image)
+    }
+
+    /// Often where the height grid is too.
+    fn inner_fix(&self, random: &mut Random) -> [i64; 3] {
+        inner_fix_of_both(random, self)
+    }
+
+    /// Of either grid.
+    fn spoil_at(&mut self, random: &mut Random, points: &[Point]) {
+        if random.chance(50) {
+            spoil_cell(random, &mut self.corrections, points);
+        } else {
+            spoil_cell(random, &mut self.heights, points);
+        }
     }
 }
 
@@ -42,7 +66,7 @@ pub fn two_grids_to_move_in(random: &mut Random) -> TwoGrids {
 
 /// The grid's corrections, and heights: its own on the same geometry, at the edge of the check,
 /// on any geometry, or on one that lies in some relation to the corrections.
-fn with_heights_of_their_own(random: &mut Random, grid: Grid<3>) -> TwoGrids {
+pub fn with_heights_of_their_own(random: &mut Random, grid: Grid<3>) -> TwoGrids {
     let (corrections, same) = grid.split();
     let heights = match random.below(100) {
         0..10 => same,

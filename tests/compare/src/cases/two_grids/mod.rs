@@ -1,14 +1,13 @@
 //! The made-up calls of edition 2: heights on a grid of their own.
 
-mod damage;
-mod fixes;
-mod grids;
-mod lists;
+pub(super) mod damage;
+pub(super) mod fixes;
+pub(super) mod grids;
 mod placing;
 
+use super::over_grids::{any_call_over, list_back, list_out, Grids};
 use crate::random::Random;
-use crate::{Call, Way};
-use grids::TwoGrids;
+use crate::Call;
 
 /// Among so many cases stands one over the largest grids that an image can have.
 const LARGEST_GRIDS_EVERY: u64 = 200_000;
@@ -31,8 +30,14 @@ pub fn call(seed: u64, index: u64) -> Call {
         0..20 => Call::GridCheck {
             image: grids::any_two_grids(&mut random).image(),
         },
-        20..55 => lists::list_out(&mut random),
-        55..78 => lists::list_back(&mut random),
+        20..55 => {
+            let grids = grids::two_grids_to_move_in(&mut random);
+            list_out(&mut random, grids)
+        }
+        55..78 => {
+            let grids = grids::any_two_grids(&mut random);
+            list_back(&mut random, grids)
+        }
         _ => damaged_image_call(&mut random),
     }
 }
@@ -42,13 +47,4 @@ fn damaged_image_call(random: &mut Random) -> Call {
     let grids = grids::any_two_grids(random);
     let image = damage::damaged_image(random, &grids);
     any_call_over(random, &grids, image)
-}
-
-/// The check or a list over an image, with fixes that suit the grids it was made from.
-fn any_call_over(random: &mut Random, grids: &TwoGrids, image: Vec<u8>) -> Call {
-    match random.below(3) {
-        0 => Call::GridCheck { image },
-        1 => lists::list_over(random, Way::Out, grids, image),
-        _ => lists::list_over(random, Way::Back, grids, image),
-    }
 }

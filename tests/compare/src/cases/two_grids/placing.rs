@@ -1,6 +1,6 @@
 //! Where a height grid lies to the correction grid.
 
-use crate::cases::axis::Axis;
+use crate::cases::axis::{geometry_of, Axis};
 use crate::cases::geometry::SPACING_LIMIT;
 use crate::random::Random;
 use reference::Geometry;
@@ -46,14 +46,7 @@ pub fn height_geometry(random: &mut Random, corrections: &Geometry) -> Geometry 
     };
     let latitude = height_axis(random, &Axis::latitude(corrections), in_latitude);
     let longitude = height_axis(random, &Axis::longitude(corrections), in_longitude);
-    Geometry {
-        south: latitude.low,
-        west: longitude.low,
-        latitude_spacing: latitude.spacing as u32,
-        longitude_spacing: longitude.spacing as u32,
-        rows: latitude.lines as u32,
-        columns: longitude.lines as u32,
-    }
+    geometry_of(&latitude, &longitude)
 }
 
 /// An axis that lies so to the corrections', or the same one where there is no room.

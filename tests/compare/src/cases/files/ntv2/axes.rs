@@ -37,9 +37,9 @@ pub fn with_halves(random: &mut Random, mut axis: Axis) -> Axis {
 }
 
 /// Writes the axis's numbers in floats that become exactly these, longitudes with the other sign.
-pub fn write(random: &mut Random, records: &mut Records, which: usize, axis: &Axis) {
+pub fn write(random: &mut Random, header: &mut Records, which: usize, axis: &Axis) {
     for (label, nd) in LABELS[which].into_iter().zip(numbers(axis)) {
-        write_nd(random, records, label, nd);
+        write_nd(random, header, label, nd);
     }
 }
 
@@ -48,13 +48,13 @@ fn numbers(axis: &Axis) -> [i64; 3] {
     [axis.low, axis.high(), axis.spacing]
 }
 
-fn write_nd(random: &mut Random, records: &mut Records, label: &str, nd: i64) {
+fn write_nd(random: &mut Random, header: &mut Records, label: &str, nd: i64) {
     let bits = angles::exactly(random, FROM_ARCSECONDS, nd);
     let bits = match label {
         "W_LONG" | "E_LONG" => turned(DOUBLE, bits),
         _ => bits,
     };
-    *records.value_mut(label) = bits.to_le_bytes();
+    *header.value_mut(label) = bits.to_le_bytes();
 }
 
 /// The axis with both bounds at or past a limit, a spacing at or past its limit, or another count
@@ -96,7 +96,7 @@ fn with_lines(axis: Axis, spacing: i64, lines: i64) -> Axis {
 
 /// Sets some bound or spacing to a float that is not finite, to a very small one, to one of the
 /// other sign, to one at its limit or a few bits beside it, or to any.
-pub fn break_float(random: &mut Random, records: &mut Records, axes: &[Axis; 2]) {
+pub fn break_float(random: &mut Random, header: &mut Records, axes: &[Axis; 2]) {
     let which = random.below(2) as usize;
     let place = random.below(3) as usize;
     let label = LABELS[which][place];
@@ -110,32 +110,32 @@ pub fn break_float(random: &mut Random, records: &mut Records, axes: &[Axis; 2])
             let limit = if place == SPACING { spacing } else { bound };
             angles::edge(random, FROM_ARCSECONDS, limit)
         }
-        _ => turned(DOUBLE, records.angle(label)),
+        _ => turned(DOUBLE, header.angle(label)),
     };
-    *records.value_mut(label) = bits.to_le_bytes();
+    *header.value_mut(label) = bits.to_le_bytes();
 }
 
 /// Changes a bound or a spacing by 1 nd or by a part of a spacing, or exchanges two floats: the
 /// bounds of an axis, or the spacings.
-pub fn break_difference(random: &mut Random, records: &mut Records, axes: &[Axis; 2]) {
+pub fn break_difference(random: &mut Random, header: &mut Records, axes: &[Axis; 2]) {
     let which = random.below(2) as usize;
     let axis = &axes[which];
     let [low, high, _] = LABELS[which];
     match random.below(10) {
-        0..3 => exchange(records, low, high),
-        3 => exchange(records, LABELS[0][SPACING], LABELS[1][SPACING]),
+        0..3 => exchange(header, low, high),
+        3 => exchange(header, LABELS[0][SPACING], LABELS[1][SPACING]),
         _ => {
             let place = random.below(3) as usize;
             let part = random.between(1, axis.spacing);
             let change = random.pick(&[-1, 1, 1, part, axis.spacing / 2]);
             let nd = numbers(axis)[place] + change;
-            write_nd(random, records, LABELS[which][place], nd);
+            write_nd(random, header, LABELS[which][place], nd);
         }
     }
 }
 
-fn exchange(records: &mut Records, one: &str, other: &str) {
-    let before = *records;
-    *records.value_mut(one) = before.value(other);
-    *records.value_mut(other) = before.value(one);
+fn exchange(header: &mut Records, one: &str, other: &str) {
+    let before = *header;
+    *header.value_mut(one) = before.value(other);
+    *header.value_mut(other) = before.value(one);
 }

@@ -1,46 +1,55 @@
 //! Made-up records: fit ones, and with a label, the type or a count broken.
 
 use crate::random::Random;
-use reference::{text, Record, Records, LABELS};
+use reference::{text, Record, Records, END_LABEL, GRID_LABELS, OVERVIEW_LABELS};
 
-/// Records whose labels, type and counts of records and grids are fit, and with any other values.
-pub fn fit(random: &mut Random) -> Records {
-    let mut records = Records(LABELS.map(|label| Record {
-        label: text(label),
+/// An overview whose labels, type and counts are fit, for so many grids, and with any other values.
+pub fn overview(random: &mut Random, grids: i32) -> Records {
+    let mut overview = Records::new(&OVERVIEW_LABELS, |_| random.draw().to_le_bytes());
+    *overview.value_mut("GS_TYPE") = text("SECONDS");
+    overview.set_count("NUM_OREC", 11);
+    overview.set_count("NUM_SREC", 11);
+    overview.set_count("NUM_FILE", grids);
+    overview
+}
+
+/// A grid's header with any values.
+pub fn header(random: &mut Random) -> Records {
+    Records::new(&GRID_LABELS, |_| random.draw().to_le_bytes())
+}
+
+/// END with any value.
+pub fn end(random: &mut Random) -> Record {
+    Record {
+        label: text(END_LABEL),
         value: random.draw().to_le_bytes(),
-    }));
-    *records.value_mut("GS_TYPE") = text("SECONDS");
-    set_count(&mut records, "NUM_OREC", 11);
-    set_count(&mut records, "NUM_SREC", 11);
-    set_count(&mut records, "NUM_FILE", 1);
-    records
+    }
 }
 
-/// Sets a count, and not the four bytes behind it.
-pub fn set_count(records: &mut Records, label: &str, count: i32) {
-    records.value_mut(label)[..4].copy_from_slice(&count.to_le_bytes());
-}
-
-/// Breaks some label: one bit of it, its small letters, its filling, or another label for it.
-pub fn break_label(random: &mut Random, records: &mut Records) {
-    let place = random.below(LABELS.len() as u64) as usize;
-    let label = records.0[place].label;
-    let next = text(LABELS[(place + 1) % LABELS.len()]);
+/// Breaks a record's label: one bit of it, its small letters, its filling, or another label for
+/// it.
+pub fn break_label(random: &mut Random, record: &mut Record) {
+    let label = record.label;
+    let labels = [OVERVIEW_LABELS, GRID_LABELS].concat();
+    let other = text(random.pick(&labels));
     let small = label.map(|byte| byte.to_ascii_lowercase());
     let filled = label.map(|byte| if byte == b' ' { 0 } else { byte });
-    let mut one_bit = label;
-    one_bit[random.below(8) as usize] ^= 1 << random.below(8);
     let mut last_byte = label;
     last_byte[7] ^= random.between(1, 255) as u8;
-    records.0[place].label =
-        random.pick(&[one_bit, one_bit, last_byte, small, filled, next, [0; 8]]);
+    let one_bit = with_one_bit_changed(random, label);
+    record.label = random.pick(&[one_bit, one_bit, last_byte, small, filled, other, [0; 8]]);
+}
+
+/// The text with one bit changed.
+pub fn with_one_bit_changed(random: &mut Random, mut text: [u8; 8]) -> [u8; 8] {
+    text[random.below(8) as usize] ^= 1 << random.below(8);
+    text
 }
 
 /// Another type, or one bit of it changed.
-pub fn break_type(random: &mut Random, records: &mut Records) {
-    let mut one_bit = text("SECONDS");
-    one_bit[random.below(8) as usize] ^= 1 << random.below(8);
-    *records.value_mut("GS_TYPE") = random.pick(&[
+pub fn break_type(random: &mut Random, overview: &mut Records) {
+    let one_bit = with_one_bit_changed(random, text("SECONDS"));
+    *overview.value_mut("GS_TYPE") = random.pick(&[
         one_bit,
         text("MINUTES"),
         text("DEGREES"),
@@ -50,9 +59,14 @@ pub fn break_type(random: &mut Random, records: &mut Records) {
     ]);
 }
 
+/// Another number of grids, near those that are allowed.
+pub fn break_number_of_grids(random: &mut Random, overview: &mut Records) {
+    let number = random.pick(&[0, 1, 2, 3, 3, 3, 4, -1, -2]);
+    overview.set_count("NUM_FILE", number);
+}
+
 /// Changes a count.
-pub fn break_count(random: &mut Random, records: &mut Records) {
-    let label = random.pick(&["NUM_OREC", "NUM_SREC", "NUM_FILE", "GS_COUNT"]);
+pub fn break_count(random: &mut Random, records: &mut Records, label: &str) {
     let count = records.count(label);
     let any = random.draw() as i32;
     let other = random.pick(&[
@@ -67,5 +81,5 @@ pub fn break_count(random: &mut Random, records: &mut Records) {
         i32::MAX,
         any,
     ]);
-    set_count(records, label, other);
+    records.set_count(label, other);
 }

@@ -45,7 +45,7 @@ impl Made for Vdatum {
         File {
             format: Format::Vdatum,
             bytes,
-            buffer_length: 4 * self.nodes.len(),
+            buffer_lengths: [4 * self.nodes.len(), 0],
         }
     }
 

@@ -1,0 +1,138 @@
+//! What images of edition 2 share, whatever the kind: their two grids, and the ways over them.
+
+use super::fix::{convert_all, judge_fix, Values};
+use super::nodes::{Nodes, Point};
+use super::slopes::Steps;
+use super::trailer::{Axes, Trailer};
+use super::Number;
+use crate::Way;
+
+/// The corrections and the heights of an opened image.
+pub struct TwoGrids<'a> {
+    pub corrections: Nodes<'a, 2>,
+    pub heights: Nodes<'a, 1>,
+}
+
+/// What a way asks of an opened image.
+pub trait Source {
+    /// The stop rule's distance.
+    const STOP: i64;
+
+    fn two_grids(&self) -> &TwoGrids<'_>;
+
+    /// The corrections at a point in their bounds, after question 9 of their cell.
+    fn corrections(&self, p: Point) -> Result<[i64; 2], Number>;
+}
+
+/// A list over an opened image, or the number that it got.
+#[inline]
+pub fn list(
+    opened: Result<impl Source, Number>,
+    way: Way,
+    fixes: &[i64],
+    answers: &mut [i64],
+) -> Number {
+    let source = match opened {
+        Ok(source) => source,
+        Err(number) => return number,
+    };
+    convert_all(fixes, answers, |point, height| match way {
+        Way::Out => out(&source, point, height),
+        Way::Back => back(&source, point, height),
+    })
+}
+
+fn out<S: Source>(source: &S, p: Point, height: i64) -> Result<Values, Number> {
+    let grid = source.two_grids();
+    judge_fix(&grid.corrections, p, height, 100_000_000)?;
+    let mut last = p;
+    for count in 1..=5 {
+        let [north, east] = source.corrections(last)?;
+        let next = Point {
+            latitude: p.latitude - north,
+            longitude: p.longitude - east,
+        };
+        if !grid.corrections.holds(next) {
+            return Err(10);
+        }
+        let north = (next.latitude - last.latitude).abs();
+        let east = (next.longitude - last.longitude).abs();
+        if north <= S::STOP && east <= S::STOP {
+            let height = height - grid.height(next)?;
+            return Ok([next.latitude, next.longitude, height, count]);
+        }
+        last = next;
+    }
+    Err(11)
+}
+
+fn back(source: &impl Source, q: Point, height: i64) -> Result<Values, Number> {
+    let grid = source.two_grids();
+    judge_fix(&grid.corrections, q, height, 110_000_000)?;
+    let [north, east] = source.corrections(q)?;
+    let height = height + grid.height(q)?;
+    Ok([q.latitude + north, q.longitude + east, height, 1])
+}
+
+/// The corrections of a grid at a point in its bounds, after question 9 of their cell.
+#[inline]
+pub fn corrections_of(nodes: &Nodes<2>, p: Point) -> Result<[i64; 2], Number> {
+    let cell = nodes.cell(p)?;
+    Ok([cell.value(0), cell.value(1)])
+}
+
+impl<'a> TwoGrids<'a> {
+    /// Question 6 of both, by the trailer at the image's end.
+    pub fn open(
+        image: &'a [u8],
+        trailer: &Trailer,
+        (latitude, longitude): Axes,
+        (height_latitude, height_longitude): Axes,
+    ) -> Result<TwoGrids<'a>, Number> {
+        let end = image.len() - 80;
+        let height_back = 4 * height_latitude.count * height_longitude.count + 80;
+        let back = 8 * latitude.count * longitude.count + height_back;
+        let backs = [trailer.short(64) as usize, trailer.short(68) as usize];
+        if backs != [back, height_back] || back > image.len() {
+            return Err(6);
+        }
+        let (first, first_height) = (image.len() - back, image.len() - height_back);
+        Ok(TwoGrids {
+            corrections: Nodes {
+                nodes: &image[first..first_height],
+                latitude,
+                longitude,
+            },
+            heights: Nodes {
+                nodes: &image[first_height..end],
+                latitude: height_latitude,
+                longitude: height_longitude,
+            },
+        })
+    }
+
+    /// The height at a point, after question 15 and question 9 of the height cell.
+    #[inline]
+    fn height(&self, p: Point) -> Result<i64, Number> {
+        if !self.heights.holds(p) {
+            return Err(15);
+        }
+        Ok(self.heights.cell(p)?.value(0))
+    }
+
+    /// Question 9 over the nodes of both grids, and the largest steps.
+    pub fn steps(&self) -> Result<([Steps; 2], [Steps; 1]), Number> {
+        Ok((self.corrections.steps()?, self.heights.steps()?))
+    }
+
+    /// Question 12 with each grid's own spacings: the findings.
+    pub fn judge_slopes(
+        &self,
+        (steps, height_steps): ([Steps; 2], [Steps; 1]),
+    ) -> Result<[i64; 6], Number> {
+        self.corrections.judge_slopes(&steps)?;
+        self.heights.judge_slopes(&height_steps)?;
+        let ([[a, b], [c, d]], [[e, f]]) = (steps, height_steps);
+        Ok([a, b, c, d, e, f])
+    }
+}

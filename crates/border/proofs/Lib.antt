@@ -1,0 +1,2 @@
+-- A law of planes, for the functions that make lines of them.
+pub mod SecondRow

@@ -1,0 +1,2 @@
+-- What the contracts of question 21 cite.
+pub mod Lines

@@ -1,0 +1,2 @@
+-- A law of the numbers that are handed back.
+pub mod HandedBack

@@ -1,0 +1,3 @@
+-- Laws about the headers.
+pub mod Axes
+pub mod Header

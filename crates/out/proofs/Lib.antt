@@ -1,0 +1,2 @@
+-- Laws of the cell that the way out holds.
+pub mod Held

@@ -1,0 +1,2 @@
+-- What the contracts of judging a trailer cite.
+pub mod Verdict

@@ -1,0 +1,2 @@
+-- What the contracts of the walks over all nodes cite.
+pub mod Rows

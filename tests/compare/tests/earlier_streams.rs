@@ -1,0 +1,83 @@
+//! The streams over images are as they were before later images came: the same calls, and the same
+//! answers of the reference to all that take an image, unless it is one of those that came later.
+
+use compare::{Call, Outcome, Reference, Stream};
+use reference::{Axis, Trailer, TwoGridTrailer};
+
+const CASES: u64 = 20_000;
+
+/// A digest of bytes (FNV-1a).
+struct Digest(u64);
+
+impl Digest {
+    fn new() -> Digest {
+        Digest(0xCBF2_9CE4_8422_2325)
+    }
+
+    fn add(&mut self, bytes: impl IntoIterator<Item = u8>) {
+        for byte in bytes {
+            self.0 = (self.0 ^ u64::from(byte)).wrapping_mul(0x0000_0100_0000_01B3);
+        }
+    }
+
+    fn add_numbers(&mut self, numbers: &[i64]) {
+        self.add(numbers.iter().flat_map(|number| number.to_le_bytes()));
+    }
+
+    fn add_call(&mut self, call: &Call) {
+        let longitude = |axis: &Axis| i64::from(*axis == Axis::Longitude);
+        match call {
+            Call::GridCheck { image } => self.add(image.iter().copied()),
+            Call::List(list) => {
+                self.add(format!("{:?}", list.way).bytes());
+                self.add(list.image.iter().copied());
+                self.add_numbers(&list.fixes);
+                self.add_numbers(&[list.answers_length as i64]);
+            }
+            Call::ReadNotation { axis, notation } => self.add_numbers(&[
+                longitude(axis),
+                notation.degrees as i64,
+                notation.minutes as i64,
+                notation.hundred_thousandths as i64,
+                notation.letter.into(),
+            ]),
+            Call::WriteNotation { axis, nd } => self.add_numbers(&[longitude(axis), *nd]),
+            Call::ConvertFile(file) => panic!("{} bytes of a file", file.bytes.len()),
+        }
+    }
+
+    fn add_outcome(&mut self, outcome: &Outcome) {
+        self.add_numbers(&[outcome.number]);
+        self.add_numbers(&outcome.written);
+    }
+}
+
+/// The digests of the stream's calls, and of the answers to those whose image did not come later.
+fn digests(stream: Stream, came_later: fn(&[u8]) -> bool) -> (u64, u64) {
+    let (mut calls, mut outcomes) = (Digest::new(), Digest::new());
+    for index in 0..CASES {
+        let call = stream.call(1, index);
+        calls.add_call(&call);
+        if call.image().is_some_and(|image| !came_later(image)) {
+            outcomes.add_outcome(&call.perform(&Reference, 0));
+        }
+    }
+    (calls.0, outcomes.0)
+}
+
+#[test]
+fn edition_1_is_as_it_was_before_edition_2() {
+    let says_edition_2 = |image: &[u8]| Trailer::read(image).is_some_and(|it| it.edition == 2);
+    let before = (0xA406_07A8_2600_E745, 0xF477_C113_960A_7868);
+    assert_eq!(digests(Stream::EditionOne, says_edition_2), before);
+}
+
+#[test]
+fn edition_2_is_as_it_was_before_kind_1() {
+    let says_kind_1 = |image: &[u8]| {
+        let trailer = TwoGridTrailer::read(image);
+        trailer.is_some_and(|it| it.edition == 2 && it.kind == 1)
+    };
+    let before = (0x499B_5DC0_A3E1_D9EE, 0x3F34_07AD_D60B_358D);
+    assert_eq!(digests(Stream::EditionTwo, says_kind_1), before);
+}
