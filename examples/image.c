@@ -1,7 +1,8 @@
 /* Makes an image of edition 2 of an NTv2 .gsb file, which has the corrections, and a VDatum .gtx file, which has the heights: of kind 1 if
  * the NTv2 file has a subgrid, which becomes the dense grid, and else of kind 0. Puts the grid check to the image, writes it if it passes
  * and prints the line of the program gridcheck. After a refusal prints what its number means and which of the two files, or the image, is
- * refused.
+ * refused. It makes no image of kind 2: the corrections of that are 0 on the border, and how those of a file become so is not for the file
+ * to say.
  *
  *   image FILE.gsb FILE.gtx IMAGE
  *

@@ -8,9 +8,11 @@
  * what it was lent is unchanged. A list call puts 14 right after 6, or after 20 where that is put; 7 to 11 and 15 are put to each
  * fix and stand in that fix's answer. An image of edition 2 has its corrections on one grid and its heights on another; its kind 1
  * has a dense grid of corrections too, inside the correction grid. 1 to 6 are put to all of them, each question to the correction
- * grid, then to the height grid and last to the dense grid; 20 comes right after 6, and 21 in the grid check after 12. 16 and 17
- * are put to VDatum files, which the bench converts into the height nodes of such an image, and 18 and 19 to NTv2 files, which it
- * converts into the correction nodes and, of a subgrid, the dense nodes.
+ * grid, then to the height grid and last to the dense grid; 20 comes right after 6, and 21 in the grid check after 12. Its kind 2
+ * answers fixes past the edge too: 8, 10 and 15 are not put to it, an answer without a height has the number MARKER_NO_HEIGHT, which
+ * is no refusal, and 22 comes in its grid check before 12. 16 and 17 are put to VDatum files, which the bench converts into the
+ * height nodes of such an image, and 18 and 19 to NTv2 files, which it converts into the correction nodes and, of a subgrid, the
+ * dense nodes.
  */
 #ifndef MARKER_H
 #define MARKER_H
@@ -23,24 +25,25 @@
 extern "C" {
 #endif
 
-/* What a function gives, and what stands in an answer of a list: document 01's numbers. */
+/* What a function gives, and what stands in an answer of a list: document 01's numbers. All are refusals but MARKER_DONE and, in an
+ * answer alone, MARKER_NO_HEIGHT. */
 enum marker_number {
     MARKER_DONE = 0,
     MARKER_REFUSED_IMAGE_LENGTH = 1,     /* the image has fewer than 40 bytes, in edition 2 fewer than 80. With kind 1 also, once the
                                             kind is known: fewer than 36 plus the back to the correction nodes, whatever that back
                                             is */
-    MARKER_REFUSED_EDITION = 2,          /* its edition is not 1 or 2, or edition 2's kind is not 0 or 1 */
+    MARKER_REFUSED_EDITION = 2,          /* its edition is not 1 or 2, or edition 2's kind is not 0, 1 or 2 */
     MARKER_REFUSED_NODE_COUNT = 3,       /* its rows or columns are not from 2 to 4,096 */
     MARKER_REFUSED_SPACING = 4,          /* a spacing is not from 1 to 100,000,000 */
     MARKER_REFUSED_GRID_BOUNDS = 5,      /* a bound lies past 90 degrees (south, north) or 180 degrees (west, east) from zero */
     MARKER_REFUSED_NODE_BYTES = 6,       /* a back is not what it should be (below), or is above the image's length */
     MARKER_REFUSED_FIX_LIMITS = 7,       /* the fix's latitude is past 90 degrees, its longitude past 180, or its height past
                                             100,000,000 (out) or 110,000,000 (back) */
-    MARKER_REFUSED_OUTSIDE_BOUNDS = 8,   /* the fix's point is not in the bounds of the corrections */
+    MARKER_REFUSED_OUTSIDE_BOUNDS = 8,   /* the fix's point is not in the bounds of the corrections. Not put to kind 2 */
     MARKER_REFUSED_NODE_LIMITS = 9,      /* a correction past 10,000,000 or a height past 1,000,000 at a corner of a cell used, or
                                             at any node in the grid check. In edition 2 a cell of the correction grid or of the
                                             dense grid has corrections alone, and one of the height grid heights */
-    MARKER_REFUSED_ITERATE_OUTSIDE = 10, /* out: one of the points p1 to p5 is not in the bounds */
+    MARKER_REFUSED_ITERATE_OUTSIDE = 10, /* out: one of the points p1 to p5 is not in the bounds. Not put to kind 2 */
     MARKER_REFUSED_NOT_SETTLED = 11,     /* out: the stop rule has not held after five evaluations. It asks that both angles differ
                                             from those of the point before by at most 1 nd, with a dense grid by at most 3 nd */
     MARKER_REFUSED_SLOPE = 12,           /* grid check: 100 * (A * Q + B * P) is above P * Q for a value; A and B its findings
@@ -50,7 +53,8 @@ enum marker_number {
                                             degrees from zero */
     MARKER_REFUSED_LIST_LENGTHS = 14,    /* the fixes' length is not 3 * n and the answers' length 5 * n for the same n */
     MARKER_REFUSED_OFF_HEIGHT_GRID = 15, /* edition 2: the Bessel point is not in the bounds of the height grid. Put after 11 going
-                                            out, and going back after 9 for the corrections; 9 for the heights comes last */
+                                            out, and going back after 9 for the corrections; 9 for the heights comes last. Not put
+                                            to kind 2 */
     MARKER_REFUSED_VDATUM_FILE = 16,     /* VDatum: a number of the header is not finite or, once rounded, is refused by 3 to 5, or
                                             the file or the buffer is not of the exact length */
     MARKER_REFUSED_VDATUM_HEIGHT = 17,   /* VDatum: a node is not finite or, once rounded, is past 1,000,000 */
@@ -63,9 +67,14 @@ enum marker_number {
     MARKER_REFUSED_DENSE_ALIGNMENT = 20, /* kind 1: a bound of the dense grid is outside the correction grid or not on one of its
                                             grid lines, or a spacing of that is not a whole multiple of the dense one. Put after 6,
                                             by every call that takes an image */
-    MARKER_REFUSED_DENSE_BORDER = 21     /* grid check, kind 1, after 12: a correction at a node on the border of the dense grid, its
+    MARKER_REFUSED_DENSE_BORDER = 21,    /* grid check, kind 1, after 12: a correction at a node on the border of the dense grid, its
                                             first and last row and column, is more than 1 nd from the exact value, not rounded, that
                                             the correction grid has there */
+    MARKER_REFUSED_BORDER_CORRECTION = 22, /* grid check, kind 2, between 9 and 12: a correction at a node on the border of the
+                                              correction grid, its first and last row and column, is not 0 */
+    MARKER_NO_HEIGHT = 100               /* no refusal, and in an answer of a list alone: the fix is accepted, over an image of kind 2,
+                                            and its Bessel point is off the height grid. The answer's latitude, longitude and count
+                                            are as with MARKER_DONE; its height is 0, which means that there is none */
 };
 
 /* An image, in bytes; its numbers are little-endian. Bytes before the first node have no meaning. Nodes stand in rows, the southern
@@ -101,7 +110,7 @@ enum marker_number {
  *                    64  uint32_t  back to the first correction node, 8 * rows * columns (correction grid) + back to the first
  *                                  height node
  *                    68  uint32_t  back to the first height node, 4 * rows * columns (height grid) + 80
- *                    72  uint32_t  kind: 0, or 1 with a dense grid
+ *                    72  uint32_t  kind: 0, or 1 with a dense grid, or 2, laid out as 0, to answer fixes past the edge
  *                    76  uint32_t  edition: 2
  *
  *   geometry  0  int64_t   southern latitude, nd
@@ -113,6 +122,10 @@ enum marker_number {
  *
  * At a point in the dense bounds, all four included, the corrections are those of the dense grid, and elsewhere those of the correction
  * grid; in the dense bounds no conversion reads the correction grid's nodes. Heights are those of the height grid everywhere.
+ *
+ * In kind 2 a point outside the bounds of the correction grid has both corrections 0, and one off the height grid has no height: no node
+ * is read there. A point on a bound is not outside. A point may be outside of one grid and on the other. The answer out of an image that
+ * fails the grid check may lie past 90 or 180 degrees; of one that passes it does not.
  */
 enum {
     MARKER_NODE_LENGTH = 12,
@@ -123,13 +136,16 @@ enum {
     MARKER_TWO_GRID_TRAILER_LENGTH = 80
 };
 
-/* What stands where in a fix, which ends after its height, and in an answer. A refused fix's answer is four zeros and the number. */
+/* What stands where in a fix, which ends after its height, and in an answer. A refused fix's answer is four zeros and the number. A fix is
+ * accepted if its number is MARKER_DONE or, with an image of kind 2, MARKER_NO_HEIGHT: then the height is 0 and means none, and the
+ * latitude, the longitude and the count are those of the answer. Do not take that 0 for a height, nor that number for a refusal. */
 enum {
     MARKER_LATITUDE = 0,
     MARKER_LONGITUDE = 1,
     MARKER_HEIGHT = 2,
     MARKER_COUNT = 3,  /* the evaluations of the grid: 1 to 5 going out, 1 going back */
-    MARKER_NUMBER = 4, /* MARKER_DONE, or 7 to 11 or 15 going out; 7, 8, 9 or 15 going back */
+    MARKER_NUMBER = 4, /* MARKER_DONE, or 7 to 11 or 15 going out; 7, 8, 9 or 15 going back. Kind 2: MARKER_DONE, MARKER_NO_HEIGHT, 7, 9
+                          or, going out, 11 */
     MARKER_FIX_LENGTH = 3,
     MARKER_ANSWER_LENGTH = 5
 };
@@ -228,17 +244,17 @@ enum {
  * grow with the image, the list or the file. The seventh argument of marker_corrections_from_ntv2 is not counted: its caller puts it on
  * the stack before. */
 enum {
-    MARKER_CODE_BYTES = 23020,
+    MARKER_CODE_BYTES = 28303,
     MARKER_GRID_CHECK_STACK = 784,
-    MARKER_LIST_OUT_STACK = 1032,
-    MARKER_LIST_BACK_STACK = 1032,
+    MARKER_LIST_OUT_STACK = 1768,
+    MARKER_LIST_BACK_STACK = 1768,
     MARKER_READ_NOTATION_STACK = 8,
     MARKER_WRITE_NOTATION_STACK = 8,
     MARKER_HEIGHTS_FROM_VDATUM_STACK = 200,
     MARKER_CORRECTIONS_FROM_NTV2_STACK = 840
 };
 
-/* The grid check. Gives 0 with the findings written, or 1 to 6, 20, 9, 12 or 21. */
+/* The grid check. Gives 0 with the findings written, or 1 to 6, 20, 9, 22, 12 or 21. */
 int64_t marker_grid_check(const uint8_t *image, size_t image_len, int64_t findings[MARKER_FINDINGS_LENGTH]);
 
 /* Converts all fixes from ETRS89 and ellipsoidal height to Bessel and NAP, each to the answer at its place in the list. A refused
@@ -259,7 +275,11 @@ int64_t marker_list_back(const uint8_t *image, size_t image_len, const int64_t *
  *
  * Of images without a dense grid also: every other Bessel point in the bounds that goes back to within 1 nd of the fix in both angles lies
  * within 3 nd of the way out's answer in each angle. And a Bessel point at least 20,000,000 nd inside, its NAP height within 99,000,000, is
- * answered going back; this answer, taken out, is answered with each angle within 2 nd of the point's and the height within 1 unit. */
+ * answered going back; this answer, taken out, is answered with each angle within 2 nd of the point's and the height within 1 unit.
+ *
+ * Of images of kind 2 also: every fix within the limits of 7, wherever it is, is answered going out, after at most five evaluations. This
+ * answer is within these limits too and, taken back, is answered with each angle within 1 nd of the fix's. Both answers have a height or
+ * neither; if they have, it returns exactly. Of such an image, other Bessel points in the bounds are all those within the limits of 7. */
 
 /* Reads the four parts of a notation as an angle in nd. `longitude` is true for longitudes, false for latitudes. Gives 0, or 13. */
 int64_t marker_read_notation(bool longitude, uint64_t degrees, uint64_t minutes, uint64_t hundred_thousandths, uint8_t letter, int64_t *nd);

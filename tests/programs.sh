@@ -1,5 +1,5 @@
-# What tests/gridcheck and tests/roundtrip share: inputs made from grid G's 148 bytes and from images of edition 2, of kinds 0 and 1, and
-# the comparison of what a program prints.
+# What tests/gridcheck and tests/roundtrip share: inputs made from grid G's 148 bytes and from images of edition 2, of kinds 0, 1 and 2,
+# and the comparison of what a program prints.
 # To be sourced, with `program` set to the program's name. It is target/bin/NAME, written by `rt ci` or `rt check NAME`.
 # shellcheck shell=bash disable=SC2154
 set -u
@@ -62,14 +62,38 @@ two_grids() {
     for node in 0 1 2 3 4 5 6 7 8; do
         numbers 4 $((100 + 4 * (node / 3))) -50
     done
+    heights
+    numbers 8 52000000000 5000000000
+    numbers 4 1000 1000 3 3
+    height_geometry
+    numbers 4 200 128 0 2
+}
+
+# heights, height_geometry: writes the nodes and the geometry of these heights.
+heights() {
+    local node
     for node in 0 1 2 3 4 5 6 7 8 9 10 11; do
         numbers 4 $((430000 + 3 * (node / 3) + 4 * (node % 3)))
     done
-    numbers 8 52000000000 5000000000
-    numbers 4 1000 1000 3 3
+}
+
+height_geometry() {
     numbers 8 51999999600 5000000100
     numbers 4 700 900 4 3
-    numbers 4 200 128 0 2
+}
+
+# past_the_edge SOUTH: writes an image of kind 2, 328 bytes: corrections at 5 rows and columns, spacings 1,000, from that latitude and G's
+# western longitude, 5 in latitude and -4 in longitude for each step from the border; and the heights of two_grids.
+past_the_edge() {
+    local steps
+    for steps in 0 0 0 0 0 0 1 1 1 0 0 1 2 1 0 0 1 1 1 0 0 0 0 0 0; do
+        numbers 4 $((5 * steps)) $((-4 * steps))
+    done
+    heights
+    numbers 8 "$1" 5000000000
+    numbers 4 1000 1000 5 5
+    height_geometry
+    numbers 4 328 128 2 2
 }
 
 # three_grids: writes an image of kind 1, 276 bytes: G's geometry with latitude corrections of 300, 305 and 310 by row, heights of 430,000

@@ -49,15 +49,16 @@ fn require_answers(grid: &Grid, fixes: &[i64]) {
     }
 }
 
-/// Fixes on, near and past the corrections' bounds, and as many for the heights' own and for those
-/// of a dense grid.
+/// Fixes on, near and past the corrections' bounds, and as many for the heights' own, for those of a
+/// dense grid and, in kind 2, past the edge.
 fn others(grid: &Grid) -> Vec<i64> {
     let heights = (grid.edition != Edition::First).then_some(&grid.heights);
     let geometries = [Some(&grid.corrections), heights, grid.dense.as_ref()];
     let geometries = geometries.into_iter().flatten();
-    geometries
-        .flat_map(|it| fixes::anywhere(it, OTHER_FIXES))
-        .collect()
+    let around = geometries.flat_map(|it| fixes::anywhere(it, OTHER_FIXES));
+    let is_unbounded = grid.edition == Edition::SecondUnbounded;
+    let past = is_unbounded.then(|| fixes::past_the_edge(grid, OTHER_FIXES));
+    around.chain(past.into_iter().flatten()).collect()
 }
 
 /// How far the answers of the f64 implementation and PROJ's lie from the library's. Every fix must

@@ -22,6 +22,31 @@ pub fn spread_over(grid: &Grid, count: usize) -> Vec<i64> {
     spread_between([every_other.unwrap_or(anywhere), anywhere], count)
 }
 
+/// So many fixes, every other one past the edge of the corrections, by up to a degree in latitude, in
+/// longitude or in both; the others inside as above.
+pub fn past_the_edge(grid: &Grid, count: usize) -> Vec<i64> {
+    let geometry = &grid.corrections;
+    let mut fixes = spread(geometry, count);
+    let ends = [
+        [geometry.south, geometry.south + geometry.height()],
+        [geometry.west, geometry.west + geometry.width()],
+    ];
+    for (index, fix) in fixes.chunks_exact_mut(3).enumerate().step_by(2) {
+        let drawn = mixed(index as u64);
+        let axes = [&[0][..], &[1], &[0, 1]][(drawn % 3) as usize];
+        for axis in axes {
+            let past = (mixed(drawn + 1 + *axis as u64) % 1_000_000_000) as i64 + 1;
+            let [low, high] = ends[*axis];
+            fix[*axis] = if drawn & 8 == 0 {
+                low - past
+            } else {
+                high + past
+            };
+        }
+    }
+    fixes
+}
+
 /// So many fixes spread over a geometry, likewise.
 pub fn spread(geometry: &Geometry, count: usize) -> Vec<i64> {
     spread_between([inner(geometry); 2], count)

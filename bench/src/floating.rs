@@ -1,6 +1,6 @@
-//! Document 01's formulas, edition 2's and its kind 1's, over f64, with none of their questions and no test of
-//! an index: what a program reaches that promises nothing. It reads past the image where that or a
-//! fix is unfit, and its answers are near those of the papers, not equal to them.
+//! Document 01's formulas, edition 2's and those of its kinds 1 and 2, over f64, with none of their
+//! questions and no test of an index: what a program reaches that promises nothing. It reads past the
+//! image where that or a fix is unfit, and its answers are near those of the papers, not equal to them.
 
 mod dense;
 mod first;
@@ -9,6 +9,7 @@ mod second;
 #[cfg(test)]
 mod tests;
 mod two_grids;
+mod unbounded;
 
 use crate::Way;
 
@@ -17,6 +18,8 @@ use crate::Way;
 pub fn list(way: Way, image: &[u8], fixes: &[i64], answers: &mut [i64]) -> i64 {
     if image.ends_with(&[1, 0, 0, 0, 2, 0, 0, 0]) {
         dense::list(way, image, fixes, answers)
+    } else if image.ends_with(&[2, 0, 0, 0, 2, 0, 0, 0]) {
+        unbounded::list(way, image, fixes, answers)
     } else if image.ends_with(&2_u32.to_le_bytes()) {
         second::list(way, image, fixes, answers)
     } else {
@@ -24,16 +27,15 @@ pub fn list(way: Way, image: &[u8], fixes: &[i64], answers: &mut [i64]) -> i64 {
     }
 }
 
-/// Each fix's answer: latitude, longitude, height and count from the conversion.
+/// Each fix's answer: latitude, longitude, height, count and number from the conversion.
 #[inline]
 fn convert_all(
     fixes: &[i64],
     answers: &mut [i64],
-    convert: impl Fn(i64, i64, i64) -> [i64; 4],
+    convert: impl Fn(i64, i64, i64) -> [i64; 5],
 ) -> i64 {
     for (fix, answer) in fixes.chunks_exact(3).zip(answers.chunks_exact_mut(5)) {
-        let [latitude, longitude, height, count] = convert(fix[0], fix[1], fix[2]);
-        answer.copy_from_slice(&[latitude, longitude, height, count, 0]);
+        answer.copy_from_slice(&convert(fix[0], fix[1], fix[2]));
     }
     0
 }

@@ -1,9 +1,10 @@
 //! The goals, and whether the measurements meet them.
 
 use crate::file_speeds::FileSpeeds;
+use crate::kind_tables::times_as_long;
 use crate::plan::{LARGEST, SIZE_OF_LENGTHS};
 use crate::speeds::{Conversions, Four};
-use crate::table::{size_words, times_as_long, Measured};
+use crate::table::{size_words, Measured};
 use std::fmt::Write;
 
 /// A ratio that is to be at least so much.
@@ -19,7 +20,7 @@ const PLAIN: usize = 1;
 const FLOATING: usize = 2;
 const PROJ: usize = 3;
 
-pub fn write(editions: &[Measured; 3], files: &[FileSpeeds]) -> String {
+pub fn write(editions: &[Measured; 4], files: &[FileSpeeds]) -> String {
     let mut text = String::from("\n## Goals\n\ngoal | measured | |\n---|---:|---|\n");
     let told = |met: bool| if met { "met" } else { "missed" };
     let goals = all_editions(editions).into_iter();
@@ -49,8 +50,8 @@ pub fn write(editions: &[Measured; 3], files: &[FileSpeeds]) -> String {
     text
 }
 
-/// The goals over all rows of both editions, with a dense grid and without.
-fn all_editions(editions: &[Measured; 3]) -> [Goal; 3] {
+/// The goals over all rows of both editions and of each kind; PROJ's not where fixes lie past the edge.
+fn all_editions(editions: &[Measured; 4]) -> [Goal; 3] {
     let conversions = |other: usize| {
         let rows = editions.iter().flat_map(|it| {
             let speeds = &it.speeds;
@@ -59,6 +60,9 @@ fn all_editions(editions: &[Measured; 3]) -> [Goal; 3] {
         });
         least(rows.flat_map(move |it| [it.out, it.back].map(|four| four[LIBRARY] / four[other])))
     };
+    let edges = editions.iter().flat_map(|it| &it.speeds.past_the_edge);
+    let edges = edges.flat_map(|it| [it.out, it.back].map(|three| three[LIBRARY] / three[PLAIN]));
+    let beside_plain = conversions(PLAIN).min(least(edges));
     let checks = editions.iter().flat_map(|it| &it.speeds.checks);
     let goal = |words: &str, measured: f64, wanted: f64| Goal {
         words: words.to_string(),
@@ -66,7 +70,7 @@ fn all_editions(editions: &[Measured; 3]) -> [Goal; 3] {
         wanted,
     };
     [
-        goal("conversions: least library / i128", conversions(PLAIN), 1.0),
+        goal("conversions: least library / i128", beside_plain, 1.0),
         goal(
             "grid check: least library / i128",
             least(checks.map(|[library, plain]| library / plain)),

@@ -1,4 +1,4 @@
-//! Grids as images of edition 1 and of edition 2, without a dense grid and with one.
+//! Grids as images of edition 1 and of edition 2, of each of its kinds.
 
 mod dense;
 mod made_up;
@@ -11,7 +11,7 @@ pub use made_up::{
     HEIGHT_SPACINGS,
 };
 
-/// The editions of the image, of the second both kinds.
+/// The editions of the image, of the second all kinds.
 #[derive(Clone, Copy, Debug, PartialEq, Eq)]
 pub enum Edition {
     /// The three values together in a node.
@@ -20,10 +20,17 @@ pub enum Edition {
     Second,
     /// A dense grid inside the corrections too.
     SecondDense,
+    /// Answers past the edge too.
+    SecondUnbounded,
 }
 
 impl Edition {
-    pub const ALL: [Edition; 3] = [Edition::First, Edition::Second, Edition::SecondDense];
+    pub const ALL: [Edition; 4] = [
+        Edition::First,
+        Edition::Second,
+        Edition::SecondDense,
+        Edition::SecondUnbounded,
+    ];
 
     /// In a word of the command line and of a file's name.
     pub fn word(self) -> &'static str {
@@ -31,6 +38,7 @@ impl Edition {
             Edition::First => "1",
             Edition::Second => "2",
             Edition::SecondDense => "2-dense",
+            Edition::SecondUnbounded => "2-unbounded",
         }
     }
 
@@ -45,6 +53,7 @@ impl Edition {
             Edition::First => "Edition 1",
             Edition::Second => "Edition 2",
             Edition::SecondDense => "Kind 1 (edition 2 with a dense grid)",
+            Edition::SecondUnbounded => "Kind 2 (edition 2 past the edge)",
         }
     }
 }
@@ -177,8 +186,15 @@ impl Grid {
         self
     }
 
-    /// The image of the same grid without its dense corrections.
-    pub fn image_without_dense(&self) -> Vec<u8> {
+    /// A grid of edition 2 that answers past the edge.
+    pub fn unbounded(mut self) -> Grid {
+        self.edition = Edition::SecondUnbounded;
+        self.put_kind(2);
+        self
+    }
+
+    /// The image of the same grid of kind 0, without dense corrections.
+    pub fn image_of_kind_0(&self) -> Vec<u8> {
         let mut coarse = Grid {
             image: self.image[self.first()..].to_vec(),
             ..*self
@@ -218,7 +234,7 @@ impl Grid {
     pub fn nodes(&self) -> usize {
         match self.edition {
             Edition::First => self.corrections.nodes(),
-            Edition::Second | Edition::SecondDense => {
+            _ => {
                 let dense = self.dense.as_ref().map_or(0, Geometry::nodes);
                 dense + self.corrections.nodes() + self.heights.nodes()
             }
@@ -228,7 +244,7 @@ impl Grid {
     fn correction_at(&self, row: u32, column: u32) -> usize {
         let node_bytes = match self.edition {
             Edition::First => 12,
-            Edition::Second | Edition::SecondDense => 8,
+            _ => 8,
         };
         self.first() + node_bytes * self.corrections.index(row, column)
     }
@@ -237,9 +253,7 @@ impl Grid {
         let index = self.heights.index(row, column);
         match self.edition {
             Edition::First => 12 * index + 8,
-            Edition::Second | Edition::SecondDense => {
-                self.first() + 8 * self.corrections.nodes() + 4 * index
-            }
+            _ => self.first() + 8 * self.corrections.nodes() + 4 * index,
         }
     }
 

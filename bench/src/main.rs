@@ -1,22 +1,23 @@
 //! Measures the library, the plain implementations and PROJ over images of both editions, of the
-//! second with a dense grid too, and the conversion of VDatum and NTv2 files. `bench FOLDER` writes
+//! second in all kinds, and the conversion of VDatum and NTv2 files. `bench FOLDER` writes
 //! the table and the plot there, as table.md and plot.svg; `bench --quick` prints a short table of
 //! each edition and of the files.
 
 mod agreement;
 mod counts;
-mod dense_agreement;
 mod file_agreement;
 mod file_speeds;
 mod goals;
 #[cfg(test)]
 mod image_tests;
+mod kind_tables;
 mod machine;
 mod measure;
 mod plan;
 mod plot;
 mod proj;
 mod proj_files;
+mod refusals;
 mod speeds;
 mod table;
 mod temporary;

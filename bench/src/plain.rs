@@ -1,6 +1,5 @@
-//! A straightforward implementation of document 01, of edition 2 of its image, without a dense grid
-//! and with one, and of VDatum and NTv2 files (document 02, notes 1, 2, 4 and 5), over i128, written
-//! for speed.
+//! A straightforward implementation of document 01, of edition 2 of its image in all its kinds, and of
+//! VDatum and NTv2 files (document 02, notes 1, 2 and 4 to 6), over i128, written for speed.
 
 mod axis;
 mod dense;
@@ -16,6 +15,7 @@ mod slopes;
 mod tests;
 mod trailer;
 mod two_grids;
+mod unbounded;
 mod vdatum;
 
 pub use ntv2::corrections_from_ntv2;
@@ -27,8 +27,10 @@ use crate::Way;
 type Number = i64;
 
 pub fn list(way: Way, image: &[u8], fixes: &[i64], answers: &mut [i64]) -> Number {
-    if is_dense(image) {
+    if is_of_kind(image, 1) {
         dense::list(way, image, fixes, answers)
+    } else if is_of_kind(image, 2) {
+        unbounded::list(way, image, fixes, answers)
     } else if is_second(image) {
         second::list(way, image, fixes, answers)
     } else {
@@ -37,8 +39,10 @@ pub fn list(way: Way, image: &[u8], fixes: &[i64], answers: &mut [i64]) -> Numbe
 }
 
 pub fn grid_check(image: &[u8], findings: &mut [i64; 6]) -> Number {
-    if is_dense(image) {
+    if is_of_kind(image, 1) {
         dense::grid_check(image, findings)
+    } else if is_of_kind(image, 2) {
+        unbounded::grid_check(image, findings)
     } else if is_second(image) {
         second::grid_check(image, findings)
     } else {
@@ -52,10 +56,10 @@ fn is_second(image: &[u8]) -> bool {
     image.len() >= 40 && image.ends_with(&2_u32.to_le_bytes())
 }
 
-/// Whether it is asked kind 1's questions, which come after the length's: it has edition 2's trailer,
-/// and that ends in kind 1.
-fn is_dense(image: &[u8]) -> bool {
-    image.len() >= 80 && image.ends_with(&[1, 0, 0, 0, 2, 0, 0, 0])
+/// Whether it is asked the questions of a kind, which come after the length's: it has edition 2's
+/// trailer, and that ends in this kind.
+fn is_of_kind(image: &[u8], kind: u8) -> bool {
+    image.len() >= 80 && image.ends_with(&[kind, 0, 0, 0, 2, 0, 0, 0])
 }
 
 /// Writes the findings and gives 0, or gives the number.

@@ -56,7 +56,7 @@ impl Plan {
             sizes: &SIZES,
             wide_sizes: match edition {
                 Edition::Second => &WIDE_SIZES,
-                Edition::First | Edition::SecondDense => &[],
+                _ => &[],
             },
             lengths: &LENGTHS,
             repeats: 51,

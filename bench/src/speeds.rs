@@ -1,11 +1,11 @@
 //! The measurements: conversions and checked nodes per second.
 
 use crate::agreement::{self, Distance};
-use crate::dense_agreement;
 use crate::measure::{median_seconds, Work};
 use crate::plan::{Plan, LENGTH_OF_DISTANCE, LENGTH_OF_SIZES, SIZE_OF_LENGTHS};
 use crate::proj::{self, Pipeline};
 use crate::proj_files;
+use crate::refusals;
 use crate::table::grid_words;
 use crate::temporary::Folder;
 use bench::grid::{self, Grid};
@@ -27,11 +27,13 @@ pub struct Speeds {
     pub wide: Vec<Conversions>,
     /// Nodes per second of the library and the plain implementation, by grid size.
     pub checks: Vec<[f64; 2]>,
-    /// With a dense grid: the conversions without it and with it, by grid size.
+    /// In kinds 1 and 2: the conversions over the same grid of kind 0 and of that kind, by grid size.
     pub beside_kind_0: Vec<BesideKind0>,
+    /// In kind 2: the conversions of lists of which every other fix lies past the edge, by grid size.
+    pub past_the_edge: Vec<PastTheEdge>,
     /// How far the answers of the f64 implementation and PROJ's lie from the library's.
     pub distances: [Distance; 2],
-    /// With a dense grid: images that both whole-number implementations refused with the same number.
+    /// In kinds 1 and 2: images that both whole-number implementations refused with the same number.
     pub refused: usize,
 }
 
@@ -42,13 +44,20 @@ pub struct Conversions {
     pub mean_count: f64,
 }
 
-/// Conversions of the same fixes over the same grid, without a dense grid and with one.
+/// Conversions of the same fixes over the same grid, of kind 0 and of another kind.
 pub struct BesideKind0 {
     pub out: Beside,
     pub back: Beside,
 }
 
-/// Conversions per second without and with it.
+/// Conversions per second of the library, the i128 and the f64 implementation. PROJ has no answer
+/// past the edge.
+pub struct PastTheEdge {
+    pub out: [f64; 3],
+    pub back: [f64; 3],
+}
+
+/// Conversions per second over kind 0 and over the other kind.
 pub struct Beside {
     pub library: [f64; 2],
     pub plain: [f64; 2],
@@ -64,19 +73,21 @@ struct Bench {
 pub fn measure(plan: &Plan) -> Speeds {
     let folder = Folder::new();
     let mut speeds = Speeds::default();
-    match plan.edition {
-        Edition::First => {}
-        Edition::Second => agreement::require_off_heights(),
-        Edition::SecondDense => speeds.refused = dense_agreement::require_refusals(),
+    if plan.edition == Edition::Second {
+        agreement::require_off_heights();
     }
+    speeds.refused = refusals::require(plan.edition);
     for &(rows, columns) in plan.sizes {
         let grid = grid::national(plan.edition, rows, columns);
         speeds.sizes.push(grid_words(&grid));
         let bench = Bench::over(grid, plan, &folder);
         speeds.by_size.push(bench.conversions(LENGTH_OF_SIZES));
         speeds.checks.push(bench.check_speeds());
-        if plan.edition == Edition::SecondDense {
+        if [Edition::SecondDense, Edition::SecondUnbounded].contains(&plan.edition) {
             speeds.beside_kind_0.push(bench.beside_kind_0());
+        }
+        if plan.edition == Edition::SecondUnbounded {
+            speeds.past_the_edge.push(bench.past_the_edge());
         }
         if (rows, columns) == SIZE_OF_LENGTHS && !plan.lengths.is_empty() {
             bench.measure_lengths(plan.lengths, &mut speeds);
@@ -160,18 +171,34 @@ impl Bench {
             positions.copy_from_slice(&given);
             self.pipeline.convert(way, black_box(&mut positions));
         });
-        let mut works = Implementation::ALL.map(|it| list_work(it, way, &self.grid.image, list));
-        let [library, plain, floating] = median_seconds(&mut works, self.repeats);
+        let [library, plain, floating] = self.three_speeds(way, list);
         // By itself: a program runs slower right after PROJ.
         let [proj] = median_seconds(&mut [proj_work], self.repeats);
-        [library, plain, floating, proj].map(|seconds| count as f64 / seconds)
+        [library, plain, floating, count as f64 / proj]
     }
 
-    /// The library and the i128 implementation over the same grid without its dense corrections and
-    /// with them, in turn.
+    /// The speeds without PROJ's.
+    fn three_speeds(&self, way: Way, list: &[i64]) -> [f64; 3] {
+        let count = list.len() / 3;
+        let mut works = Implementation::ALL.map(|it| list_work(it, way, &self.grid.image, list));
+        let seconds = median_seconds(&mut works, self.repeats);
+        seconds.map(|seconds| count as f64 / seconds)
+    }
+
+    /// The conversions of a list of which every other fix lies past the edge. That the library and
+    /// the i128 implementation answer such fixes alike has been seen.
+    fn past_the_edge(&self) -> PastTheEdge {
+        let list = fixes::past_the_edge(&self.grid, LENGTH_OF_SIZES);
+        PastTheEdge {
+            out: self.three_speeds(Way::Out, &list),
+            back: self.three_speeds(Way::Back, &list),
+        }
+    }
+
+    /// The library and the i128 implementation over the same grid of kind 0 and of this kind, in turn.
     fn beside_kind_0(&self) -> BesideKind0 {
         let list = fixes::spread_over(&self.grid, LENGTH_OF_SIZES);
-        let without = self.grid.image_without_dense();
+        let without = self.grid.image_of_kind_0();
         let beside = |way: Way| {
             let work = |implementation, image| list_work(implementation, way, image, &list);
             let mut works = [

@@ -4,9 +4,10 @@ use crate::agreement::OTHER_FIXES;
 use crate::counts::{Counts, Three};
 use crate::file_speeds::FileSpeeds;
 use crate::goals;
+use crate::kind_tables;
 use crate::machine;
 use crate::plan::{Plan, Size, LENGTH_OF_DISTANCE, LENGTH_OF_SIZES, SIZE_OF_LENGTHS};
-use crate::speeds::{Beside, BesideKind0, Conversions, Four, Speeds};
+use crate::speeds::{Conversions, Four, Speeds};
 use bench::grid::{Geometry, Grid};
 use bench::Edition;
 use std::fmt::Write;
@@ -21,7 +22,7 @@ pub struct Measured {
     pub counts: Counts,
 }
 
-pub fn write(editions: &[Measured; 3], files: &[FileSpeeds]) -> String {
+pub fn write(editions: &[Measured; 4], files: &[FileSpeeds]) -> String {
     let mut text = String::from("# Speed of the conversion\n\n");
     text += &machine::words();
     let _ = writeln!(
@@ -66,14 +67,10 @@ pub fn edition(measured: &Measured) -> String {
         let _ = writeln!(text, "{head} conversions per second, {of_cells}");
         text += &conversions("grid", &speeds.wide_sizes, &speeds.wide);
     }
-    if !speeds.beside_kind_0.is_empty() {
-        let beside = "conversions per second beside kind 0, on the same fixes";
-        let _ = writeln!(text, "{head} {beside}");
-        text += &beside_kind_0(&speeds.sizes, &speeds.beside_kind_0);
-    }
+    text += &kind_tables::write(&head, measured);
     let nodes = match plan.edition {
         Edition::First => "nodes",
-        Edition::Second => "nodes of both grids",
+        Edition::Second | Edition::SecondUnbounded => "nodes of both grids",
         Edition::SecondDense => "nodes of all three grids",
     };
     let _ = writeln!(text, "{head} grid check, {nodes} per second\n");
@@ -118,30 +115,6 @@ pub fn grid_words(grid: &Grid) -> String {
         let _ = write!(text, ", dense {}", words(dense));
     }
     text
-}
-
-fn beside_kind_0(names: &[String], rows: &[BesideKind0]) -> String {
-    let of_way = |way, beside: Vec<&Beside>| {
-        let mut text = format!("\n{way}: grid | library, kind 0 | library, kind 1 |");
-        text += " library: time of kind 1 / kind 0 | i128: time of kind 1 / kind 0 |\n";
-        text += "---|---:|---:|---:|---:|\n";
-        for (name, Beside { library, plain }) in names.iter().zip(beside) {
-            let [without, with] = library.map(grouped);
-            let [slower, plain_slower] = [library, plain].map(times_as_long);
-            let _ = writeln!(
-                text,
-                "{name} | {without} | {with} | {slower:.2} | {plain_slower:.2} |"
-            );
-        }
-        text
-    };
-    let out = of_way("out", rows.iter().map(|it| &it.out).collect());
-    out + &of_way("back", rows.iter().map(|it| &it.back).collect())
-}
-
-/// How many times as long a conversion takes with a dense grid.
-pub fn times_as_long([without, with]: &[f64; 2]) -> f64 {
-    without / with
 }
 
 fn conversions(first: &str, names: &[String], rows: &[Conversions]) -> String {
@@ -213,17 +186,17 @@ fn instructions(sizes: &[String], counts: &Counts) -> String {
     text
 }
 
-fn agreement(editions: &[Measured; 3], files: &[FileSpeeds]) -> String {
+fn agreement(editions: &[Measured; 4], files: &[FileSpeeds]) -> String {
     let [others, taken] = [OTHER_FIXES, LENGTH_OF_DISTANCE].map(|count| grouped(count as f64));
     let size = size_words(SIZE_OF_LENGTHS);
     let refused: usize = editions.iter().map(|it| it.speeds.refused).sum();
     let mut text = format!(
         "\n## Agreement\n\nThe library and the i128 implementation gave the same answers to all \
          fixes above, and to {others} more on, near and past the bounds of each grid of \
-         corrections, in edition 2 of heights and in kind 1 of dense corrections; also over an \
-         image of edition 2 whose heights leave out part of the corrections, where fixes get \
-         number 15; and they refused {refused} changed images of kind 1 with the same number, 20 \
-         and 21 among them. They converted all files \
+         corrections, in edition 2 of heights, in kind 1 of dense corrections, and in kind 2 past the \
+         edge; also over an image of edition 2 whose heights leave out part of the corrections, where \
+         fixes get number 15; and they refused {refused} changed images of kinds 1 and 2 with the \
+         same number, 20, 21 and 22 among them. They converted all files \
          above to the same nodes and geometry, and refused others with the same number and nothing \
          changed: {}. On the grids of {size} the answers to {taken} fixes lie at most so far from \
          the library's:\n\n",
@@ -256,7 +229,7 @@ fn refused_words(files: &[FileSpeeds]) -> String {
 }
 
 /// A whole number with commas.
-fn grouped(number: f64) -> String {
+pub fn grouped(number: f64) -> String {
     let digits = format!("{number:.0}");
     let mut text = String::new();
     for (index, digit) in digits.chars().enumerate() {

@@ -1,12 +1,6 @@
 /* The figures of document 01, starred and unstarred, each by name, put to the built library; the points of docs/ROUNDING.md; and figures
  * of our own for images of edition 2, of kinds 0 and 1, which document 02 has none for. Prints `ok NAME` or `FAILED NAME`. */
-#include <string.h>
-
-#include "marker.h"
-#include "told.h"
-
-#define SOUTH INT64_C(52000000000)
-#define WEST INT64_C(5000000000)
+#include "asked.h"
 
 /* G has 148 bytes, the image of edition 2 below 200, that with a dense grid 276. */
 enum {
@@ -15,18 +9,6 @@ enum {
     DENSE_TRAILER = 9 * 8,
     THREE_GRIDS = DENSE_TRAILER + 36 + 9 * 8 + 4 * 4 + 80
 };
-
-struct image {
-    uint8_t bytes[THREE_GRIDS];
-    size_t length;
-};
-
-/* The geometry of a grid, by the offsets of its south-west corner. */
-static uint8_t *put_geometry(uint8_t *at, const int64_t corner[2], const int64_t spacings[2], const int64_t lines[2]) {
-    at = put(put(at, SOUTH + corner[0], 8), WEST + corner[1], 8);
-    at = put(put(at, spacings[0], 4), spacings[1], 4);
-    return put(put(at, lines[0], 4), lines[1], 4);
-}
 
 /* Grid G with other corrections: latitude by row, longitude by a first value and a step for each column. */
 static void grid(struct image *image, const int64_t latitude[3], int64_t longitude, int64_t step) {
@@ -81,40 +63,6 @@ static void three_grids(struct image *image, int64_t south, int64_t side, int64_
     at = put_geometry(at, (int64_t[]){0, 0}, (int64_t[]){2000, 2000}, (int64_t[]){2, 2});
     put(put(put(put(at, 9 * 8 + 4 * 4 + 80, 4), 4 * 4 + 80, 4), 1, 4), 2, 4);
     image->length = THREE_GRIDS;
-}
-
-typedef int64_t way(const uint8_t *, size_t, const int64_t *, size_t, int64_t *, size_t);
-
-/* One fix by its offsets from the south-west corner: is this its answer? */
-static bool answers(way *convert, const struct image *image, const int64_t fix[MARKER_FIX_LENGTH],
-                    const int64_t wanted[MARKER_ANSWER_LENGTH]) {
-    int64_t given[MARKER_FIX_LENGTH] = {SOUTH + fix[MARKER_LATITUDE], WEST + fix[MARKER_LONGITUDE], fix[MARKER_HEIGHT]};
-    int64_t answer[MARKER_ANSWER_LENGTH];
-    return convert(image->bytes, image->length, given, MARKER_FIX_LENGTH, answer, MARKER_ANSWER_LENGTH) == MARKER_DONE &&
-           memcmp(answer, wanted, sizeof answer) == 0;
-}
-
-/* The same for these values, the point by its offsets too. */
-static bool gives(way *convert, const struct image *image, const int64_t fix[MARKER_FIX_LENGTH], const int64_t values[MARKER_NUMBER]) {
-    return answers(convert, image, fix,
-                   (int64_t[]){SOUTH + values[MARKER_LATITUDE], WEST + values[MARKER_LONGITUDE], values[MARKER_HEIGHT],
-                               values[MARKER_COUNT], MARKER_DONE});
-}
-
-static bool refuses(way *convert, const struct image *image, const int64_t fix[MARKER_FIX_LENGTH], int64_t number) {
-    return answers(convert, image, fix, (int64_t[]){0, 0, 0, 0, number});
-}
-
-static bool passes(const struct image *image, const int64_t wanted[MARKER_FINDINGS_LENGTH]) {
-    int64_t findings[MARKER_FINDINGS_LENGTH];
-    return marker_grid_check(image->bytes, image->length, findings) == MARKER_DONE && memcmp(findings, wanted, sizeof findings) == 0;
-}
-
-static bool check_refuses(const struct image *image, int64_t number) {
-    const int64_t before[MARKER_FINDINGS_LENGTH] = {1, 2, 3, 4, 5, 6};
-    int64_t findings[MARKER_FINDINGS_LENGTH];
-    memcpy(findings, before, sizeof findings);
-    return marker_grid_check(image->bytes, image->length, findings) == number && memcmp(findings, before, sizeof findings) == 0;
 }
 
 static bool writes(int64_t nd, uint64_t degrees, uint64_t minutes, uint64_t fraction, char letter) {
@@ -260,8 +208,8 @@ static void refusals_of_kind_1(void) {
 static void refusals_of_edition_2(void) {
     struct image image;
     two_grids(&image, 3, 4);
-    put(image.bytes + TWO_GRIDS - 8, 2, 4);
-    tell("edition 2: kind 2 gives 2", check_refuses(&image, 2));
+    put(image.bytes + TWO_GRIDS - 8, 3, 4);
+    tell("edition 2: kind 3 gives 2", check_refuses(&image, 2));
     two_grids(&image, 3, 4);
     memmove(image.bytes, image.bytes + TWO_GRIDS - 79, 79);
     image.length = 79;

@@ -1,5 +1,5 @@
 /* Measures how much stack each call of the built library writes: not more than the figure in marker.h. Prints `ok NAME` or
- * `FAILED NAME` for each call. An image of a few nodes around grid G's is read from standard input, of edition 1 or of either kind of
+ * `FAILED NAME` for each call. An image of a few nodes around grid G's is read from standard input, of edition 1 or of any kind of
  * edition 2; notations, VDatum files and NTv2 files are measured with edition 1.
  *
  * A call is made on a stack of its own that is filled with one byte; what has another byte afterwards was written. A seventh argument

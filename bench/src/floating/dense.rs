@@ -1,15 +1,14 @@
 //! Kind 1 of edition 2: a dense grid inside that of the corrections.
 
-use super::nodes::{Nodes, Trailer};
+use super::nodes::{Bounds, Nodes, Trailer};
 use super::two_grids::{self, corrections_of, grids, height_of, Source};
 use crate::Way;
-use std::ops::RangeInclusive;
 
 struct Grid<'a> {
     corrections: Nodes<'a, 8>,
     heights: Nodes<'a, 4>,
     dense: Nodes<'a, 8>,
-    dense_bounds: [RangeInclusive<i64>; 2],
+    dense_bounds: Bounds,
 }
 
 // A function of its own, so that the other kind's code does not bear on its speed.
@@ -23,7 +22,7 @@ pub fn list(way: Way, image: &[u8], fixes: &[i64], answers: &mut [i64]) -> i64 {
         corrections,
         heights,
         dense: Nodes::open(image, &dense_trailer, 0, dense_trailer.short(32)),
-        dense_bounds: dense_trailer.bounds(),
+        dense_bounds: dense_trailer.bounds(0),
     };
     two_grids::list(&grid, way, fixes, answers)
 }
@@ -34,9 +33,7 @@ impl Source for Grid<'_> {
     /// Of the dense grid in its bounds, else of the coarse one.
     #[inline]
     fn corrections(&self, latitude: i64, longitude: i64) -> [f64; 2] {
-        let [latitudes, longitudes] = &self.dense_bounds;
-        let is_dense = latitudes.contains(&latitude) && longitudes.contains(&longitude);
-        let nodes = if is_dense {
+        let nodes = if self.dense_bounds.hold(latitude, longitude) {
             &self.dense
         } else {
             &self.corrections
@@ -45,7 +42,7 @@ impl Source for Grid<'_> {
     }
 
     #[inline]
-    fn height(&self, latitude: i64, longitude: i64) -> i64 {
-        height_of(&self.heights, latitude, longitude)
+    fn height(&self, latitude: i64, longitude: i64) -> Option<i64> {
+        Some(height_of(&self.heights, latitude, longitude))
     }
 }

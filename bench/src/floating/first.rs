@@ -23,7 +23,7 @@ pub fn list(way: Way, image: &[u8], fixes: &[i64], answers: &mut [i64]) -> i64 {
 }
 
 /// At most five evaluations; the fifth's point is the answer, settled or not.
-fn out(grid: &Grid, latitude: i64, longitude: i64, height: i64) -> [i64; 4] {
+fn out(grid: &Grid, latitude: i64, longitude: i64, height: i64) -> [i64; 5] {
     let mut last = [0.0; 2];
     let mut count = 0;
     let mut place = grid.place(latitude, longitude);
@@ -35,14 +35,14 @@ fn out(grid: &Grid, latitude: i64, longitude: i64, height: i64) -> [i64; 4] {
         let settled = (shift[0] - last[0]).abs() <= 1.0 && (shift[1] - last[1]).abs() <= 1.0;
         if settled || count == 5 {
             let geoid = nearest(grid.value(&place, HEIGHT));
-            return [north, east, height - geoid, count];
+            return [north, east, height - geoid, count, 0];
         }
         last = shift;
     }
 }
 
-fn back(grid: &Grid, latitude: i64, longitude: i64, height: i64) -> [i64; 4] {
+fn back(grid: &Grid, latitude: i64, longitude: i64, height: i64) -> [i64; 5] {
     let place = grid.place(latitude, longitude);
     let [north, east, up] = [LATITUDE, LONGITUDE, HEIGHT].map(|it| nearest(grid.value(&place, it)));
-    [latitude + north, longitude + east, height + up, 1]
+    [latitude + north, longitude + east, height + up, 1, 0]
 }

@@ -27,6 +27,17 @@ pub struct Place {
     east: f64,
 }
 
+/// The bounds of a grid in latitude and in longitude.
+pub struct Bounds([RangeInclusive<i64>; 2]);
+
+impl Bounds {
+    #[inline]
+    pub fn hold(&self, latitude: i64, longitude: i64) -> bool {
+        let [latitudes, longitudes] = &self.0;
+        latitudes.contains(&latitude) && longitudes.contains(&longitude)
+    }
+}
+
 /// A trailer's bytes.
 pub struct Trailer<'a>(&'a [u8]);
 
@@ -44,13 +55,13 @@ impl<'a> Trailer<'a> {
         u32::from_le_bytes(self.0[at..at + 4].try_into().expect("4 bytes"))
     }
 
-    /// The bounds in latitude and in longitude of the geometry at the beginning.
-    pub fn bounds(&self) -> [RangeInclusive<i64>; 2] {
-        [0, 1].map(|axis| {
-            let start = self.long(8 * axis);
-            let [spacing, count] = [16, 24].map(|part| i64::from(self.short(part + 4 * axis)));
+    /// The bounds of the geometry that begins at a byte.
+    pub fn bounds(&self, at: usize) -> Bounds {
+        Bounds([0, 1].map(|axis| {
+            let start = self.long(at + 8 * axis);
+            let [spacing, count] = [16, 24].map(|part| i64::from(self.short(at + part + 4 * axis)));
             start..=start + spacing * (count - 1)
-        })
+        }))
     }
 }
 

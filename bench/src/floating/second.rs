@@ -29,7 +29,7 @@ impl Source for Grid<'_> {
     }
 
     #[inline]
-    fn height(&self, latitude: i64, longitude: i64) -> i64 {
-        height_of(&self.heights, latitude, longitude)
+    fn height(&self, latitude: i64, longitude: i64) -> Option<i64> {
+        Some(height_of(&self.heights, latitude, longitude))
     }
 }

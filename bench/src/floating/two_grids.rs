@@ -11,7 +11,17 @@ pub trait Source {
 
     fn corrections(&self, latitude: i64, longitude: i64) -> [f64; 2];
 
-    fn height(&self, latitude: i64, longitude: i64) -> i64;
+    /// The quasi-geoid height, if there is one.
+    fn height(&self, latitude: i64, longitude: i64) -> Option<i64>;
+
+    /// An answer by it, or without a height 0 and 100.
+    #[inline]
+    fn answer(&self, [north, east]: [i64; 2], by: impl Fn(i64) -> i64, count: i64) -> [i64; 5] {
+        match self.height(north, east) {
+            Some(geoid) => [north, east, by(geoid), count, 0],
+            None => [north, east, 0, count, 100],
+        }
+    }
 }
 
 /// The corrections' places in a node.
@@ -28,7 +38,7 @@ pub fn list(source: &impl Source, way: Way, fixes: &[i64], answers: &mut [i64]) 
 }
 
 /// At most five evaluations; the fifth's point is the answer, settled or not.
-fn out<S: Source>(source: &S, latitude: i64, longitude: i64, height: i64) -> [i64; 4] {
+fn out<S: Source>(source: &S, latitude: i64, longitude: i64, height: i64) -> [i64; 5] {
     let mut last = [0.0; 2];
     let mut count = 0;
     let (mut north, mut east) = (latitude, longitude);
@@ -39,16 +49,18 @@ fn out<S: Source>(source: &S, latitude: i64, longitude: i64, height: i64) -> [i6
         let settled =
             (shift[0] - last[0]).abs() <= S::STOP && (shift[1] - last[1]).abs() <= S::STOP;
         if settled || count == 5 {
-            return [north, east, height - source.height(north, east), count];
+            return source.answer([north, east], |geoid| height - geoid, count);
         }
         last = shift;
     }
 }
 
-fn back(source: &impl Source, latitude: i64, longitude: i64, height: i64) -> [i64; 4] {
+fn back(source: &impl Source, latitude: i64, longitude: i64, height: i64) -> [i64; 5] {
     let [north, east] = source.corrections(latitude, longitude).map(nearest);
-    let up = source.height(latitude, longitude);
-    [latitude + north, longitude + east, height + up, 1]
+    let mut answer = source.answer([latitude, longitude], |geoid| height + geoid, 1);
+    answer[0] += north;
+    answer[1] += east;
+    answer
 }
 
 /// The corrections of a grid at a point.

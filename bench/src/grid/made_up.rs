@@ -38,18 +38,34 @@ impl Geometry {
 /// A grid that passes the grid check, around 52 degrees north and 5 degrees east. Its values are
 /// some 0.00095 and 0.0005 degrees and 43 m, with an uneven part that differs from node to node. In
 /// edition 2 the heights cover its bounds. A dense grid lies over its middle, with an uneven part of
-/// its own.
+/// its own. In kind 2 the corrections go down to zero at the border.
 pub fn national(edition: Edition, rows: u32, columns: u32) -> Grid {
     let geometry = Geometry::national(CORRECTION_SPACINGS, rows, columns);
     let heights = own_heights(edition, &geometry);
-    let grid = Grid::new(geometry, heights, uneven_correction, uneven_height);
-    if edition == Edition::SecondDense {
-        over_the_middle(grid, |row, column| {
+    let over = |correction: &dyn Fn(u32, u32) -> [i32; 2]| {
+        Grid::new(geometry, heights, correction, uneven_height)
+    };
+    match edition {
+        Edition::First | Edition::Second => over(&uneven_correction),
+        Edition::SecondDense => over_the_middle(over(&uneven_correction), |row, column| {
             [3, 4].map(|value| uneven(row, column, value) / 5)
+        }),
+        Edition::SecondUnbounded => over(&|row, column| {
+            let most = [40_000, 60_000];
+            let most = below_the_border(&geometry, row, column, most);
+            uneven_correction(row, column).map(|it| it.clamp(-most, most))
         })
-    } else {
-        grid
+        .unbounded(),
     }
+}
+
+/// What a correction may be that rises from zero at the border by so much for each row and each
+/// column, at most.
+fn below_the_border(geometry: &Geometry, row: u32, column: u32, steps: [i32; 2]) -> i32 {
+    let from_border = |at: u32, lines: u32| at.min(lines - 1 - at) as i32;
+    let in_latitude = steps[0] * from_border(row, geometry.rows);
+    let in_longitude = steps[1] * from_border(column, geometry.columns);
+    in_latitude.min(in_longitude)
 }
 
 /// Such a grid of edition 2 with heights spaced by 0.02 and 0.025 degrees: their cells are wider
@@ -83,15 +99,15 @@ pub fn narrow_heights() -> Grid {
 pub fn zeros(edition: Edition, rows: u32, columns: u32) -> Grid {
     let geometry = Geometry::from_zero(CORRECTION_SPACINGS, rows, columns);
     let grid = Grid::of_zeros(geometry, own_heights(edition, &geometry));
-    with_same_dense(edition, grid)
+    of_kind(edition, grid)
 }
 
 /// The grid, in kind 1 with a dense one over its middle that adds nothing.
-fn with_same_dense(edition: Edition, grid: Grid) -> Grid {
-    if edition == Edition::SecondDense {
-        over_the_middle(grid, |_, _| [0, 0])
-    } else {
-        grid
+fn of_kind(edition: Edition, grid: Grid) -> Grid {
+    match edition {
+        Edition::First | Edition::Second => grid,
+        Edition::SecondDense => over_the_middle(grid, |_, _| [0, 0]),
+        Edition::SecondUnbounded => grid.unbounded(),
     }
 }
 
@@ -100,6 +116,9 @@ fn with_same_dense(edition: Edition, grid: Grid) -> Grid {
 /// grid check lets pass. In edition 2 the heights have one and a half times the spacings, and a
 /// dense grid lies along the same slope.
 pub fn with_count(edition: Edition, count: u32) -> Grid {
+    if edition == Edition::SecondUnbounded {
+        return unbounded_with_count(count);
+    }
     let middle_correction = [0, 50, 1_000, 100_000, 9_000_000][count as usize - 1];
     let geometry = Geometry {
         south: 52_000_000_000,
@@ -115,7 +134,26 @@ pub fn with_count(edition: Edition, count: u32) -> Grid {
     };
     let correction = |row, _| [middle_correction + 10_000 * (row as i32 - 10), 0];
     let grid = Grid::new(geometry, heights, correction, |_, _| 430_000);
-    with_same_dense(edition, grid)
+    of_kind(edition, grid)
+}
+
+/// The same of kind 2: over 27 by 105 nodes the latitude correction rises from zero at the border by
+/// 1/125 of the spacing from row to row and by 1/500 from column to column, the most that the grid
+/// check lets pass, up to the middle.
+fn unbounded_with_count(count: u32) -> Grid {
+    let step = [0, 4, 80, 8_000, 692_000][count as usize - 1];
+    let spacing = (125 * step as u32).max(1_000);
+    let geometry = Geometry {
+        south: 52_000_000_000,
+        west: 5_000_000_000,
+        ..Geometry::from_zero([spacing; 2], 27, 105)
+    };
+    let heights = Some(covering(&geometry, [spacing; 2]));
+    let correction = |row, column| {
+        let most = below_the_border(&geometry, row, column, [step, step / 4]);
+        [most, 0]
+    };
+    Grid::new(geometry, heights, correction, |_, _| 430_000).unbounded()
 }
 
 /// The heights' own geometry in edition 2: that of their spacings, or the corrections' where rows or

@@ -148,7 +148,7 @@ fn fixes_lie_in_the_dense_grid_and_beside_it() {
     let count = fixes.chunks_exact(3).filter(inside).count();
     assert!((500..800).contains(&count), "{count}");
     let without = Grid {
-        image: grid.image_without_dense(),
+        image: grid.image_of_kind_0(),
         ..national(Edition::Second, 64, 64)
     };
     let (with, without) = (answers(&grid, &fixes), answers(&without, &fixes));
@@ -163,8 +163,43 @@ fn fixes_lie_in_the_dense_grid_and_beside_it() {
 fn the_image_without_its_dense_grid_is_that_of_edition_2() {
     let dense = national(Edition::SecondDense, 21, 21);
     let without = national(Edition::Second, 21, 21);
-    assert_eq!(dense.image_without_dense(), without.image);
+    assert_eq!(dense.image_of_kind_0(), without.image);
     assert_eq!(dense.correction(20, 3), without.correction(20, 3));
     assert_eq!(dense.height(5, 7), without.height(5, 7));
     assert_eq!(dense.nodes(), without.nodes() + 51 * 51);
+}
+
+/// Every other fix, of which some are on the heights and others not, and with kind 0 all are refused.
+#[test]
+fn fixes_lie_past_the_edge() {
+    let grid = national(Edition::SecondUnbounded, 64, 64);
+    let fixes = fixes::past_the_edge(&grid, 1_000);
+    let of_kind_0 = Grid {
+        image: grid.image_of_kind_0(),
+        ..national(Edition::Second, 64, 64)
+    };
+    let (found, refused) = (answers(&grid, &fixes), answers(&of_kind_0, &fixes));
+    for (index, (answer, other)) in found.chunks(5).zip(refused.chunks(5)).enumerate() {
+        let is_past = index % 2 == 0;
+        assert_eq!(other[4], if is_past { 8 } else { 0 });
+        assert!([0, 100].contains(&answer[4]), "{answer:?}");
+        assert!(is_past || answer == other);
+    }
+    let count = |number: i64| found.chunks(5).filter(|it| it[4] == number).count();
+    assert_eq!(count(0) + count(100), 2_000);
+    assert!(count(100) > 700, "{}", count(100));
+}
+
+/// A correction on the border is zero, one in the middle as in other editions.
+#[test]
+fn corrections_of_kind_2_go_down_to_the_border() {
+    let (grid, without) = (
+        national(Edition::SecondUnbounded, 64, 80),
+        national(Edition::Second, 64, 80),
+    );
+    assert_eq!(grid.correction(63, 40), [0, 0]);
+    assert_eq!(grid.correction(1, 40), [40_000, -40_000]);
+    assert_eq!(grid.correction(32, 1), [60_000, -60_000]);
+    assert_eq!(grid.correction(32, 40), without.correction(32, 40));
+    assert_eq!(grid.image_of_kind_0().len(), without.image.len());
 }

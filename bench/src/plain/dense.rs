@@ -20,6 +20,7 @@ pub fn list(way: Way, image: &[u8], fixes: &[i64], answers: &mut [i64]) -> Numbe
 
 impl Source for Opened<'_> {
     const STOP: i64 = 3;
+    const BOUNDED: bool = true;
 
     #[inline]
     fn two_grids(&self) -> &TwoGrids<'_> {
@@ -61,12 +62,7 @@ fn check(grid: &Opened) -> Result<[i64; 6], Number> {
 /// Whether no node of the first and last rows and columns is further than 1 from the parent's exact
 /// value there.
 fn border_agrees(dense: &Nodes<2>, parent: &Nodes<2>) -> bool {
-    let (rows, columns) = (dense.latitude.count, dense.longitude.count);
-    let of_rows = [0, rows - 1].into_iter();
-    let of_rows = of_rows.flat_map(|row| (0..columns).map(move |column| (row, column)));
-    let of_columns = (0..rows).flat_map(|row| [0, columns - 1].map(|column| (row, column)));
-    let mut border = of_rows.chain(of_columns);
-    border.all(|(row, column)| {
+    dense.border().all(|(row, column)| {
         let point = Point {
             latitude: dense.latitude.angle(row),
             longitude: dense.longitude.angle(column),

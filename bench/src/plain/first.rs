@@ -28,7 +28,8 @@ pub fn list(way: Way, image: &[u8], fixes: &[i64], answers: &mut [i64]) -> Numbe
 }
 
 fn out(grid: &Opened, p: Point, height: i64) -> Result<Values, Number> {
-    judge_fix(grid, p, height, 100_000_000)?;
+    judge_fix(p, height, 100_000_000)?;
+    grid.judge_bounds(p, 8)?;
     let mut last = p;
     for count in 1..=5 {
         let cell = grid.cell(last)?;
@@ -36,14 +37,12 @@ fn out(grid: &Opened, p: Point, height: i64) -> Result<Values, Number> {
             latitude: p.latitude - cell.value(LATITUDE),
             longitude: p.longitude - cell.value(LONGITUDE),
         };
-        if !grid.holds(next) {
-            return Err(10);
-        }
+        grid.judge_bounds(next, 10)?;
         let north = (next.latitude - last.latitude).abs();
         let east = (next.longitude - last.longitude).abs();
         if north <= 1 && east <= 1 {
             let height = height - grid.cell(next)?.value(HEIGHT);
-            return Ok([next.latitude, next.longitude, height, count]);
+            return Ok([next.latitude, next.longitude, height, count, 0]);
         }
         last = next;
     }
@@ -51,11 +50,12 @@ fn out(grid: &Opened, p: Point, height: i64) -> Result<Values, Number> {
 }
 
 fn back(grid: &Opened, q: Point, height: i64) -> Result<Values, Number> {
-    judge_fix(grid, q, height, 110_000_000)?;
+    judge_fix(q, height, 110_000_000)?;
+    grid.judge_bounds(q, 8)?;
     let cell = grid.cell(q)?;
     let latitude = q.latitude + cell.value(LATITUDE);
     let longitude = q.longitude + cell.value(LONGITUDE);
-    Ok([latitude, longitude, height + cell.value(HEIGHT), 1])
+    Ok([latitude, longitude, height + cell.value(HEIGHT), 1, 0])
 }
 
 // As above.

@@ -1,10 +1,10 @@
-//! What the conversions of both editions share: the list, and questions 7 and 8 of a fix.
+//! What the conversions of both editions share: the list, and question 7 of a fix.
 
-use super::nodes::{Nodes, Point};
+use super::nodes::Point;
 use super::Number;
 
-/// Latitude, longitude, height and count.
-pub type Values = [i64; 4];
+/// Latitude, longitude, height, count, and the number: 0, or 100 without a height.
+pub type Values = [i64; 5];
 
 /// Each fix's answer, after question 14.
 #[inline]
@@ -22,30 +22,19 @@ pub fn convert_all(
             latitude: fix[0],
             longitude: fix[1],
         };
-        let five = match convert(point, fix[2]) {
-            Ok([latitude, longitude, height, count]) => [latitude, longitude, height, count, 0],
-            Err(number) => [0, 0, 0, 0, number],
-        };
+        let five = convert(point, fix[2]).unwrap_or_else(|number| [0, 0, 0, 0, number]);
         answer.copy_from_slice(&five);
     }
     0
 }
 
-/// Questions 7 and 8.
-pub fn judge_fix<const VALUES: usize>(
-    grid: &Nodes<VALUES>,
-    p: Point,
-    height: i64,
-    limit: u64,
-) -> Result<(), Number> {
+/// Question 7.
+pub fn judge_fix(p: Point, height: i64, limit: u64) -> Result<(), Number> {
     let angles_fit = p.latitude.unsigned_abs() <= 90_000_000_000
         && p.longitude.unsigned_abs() <= 180_000_000_000;
-    if !angles_fit || height.unsigned_abs() > limit {
-        return Err(7);
-    }
-    if grid.holds(p) {
+    if angles_fit && height.unsigned_abs() <= limit {
         Ok(())
     } else {
-        Err(8)
+        Err(7)
     }
 }

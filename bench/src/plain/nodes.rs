@@ -42,6 +42,15 @@ impl<const VALUES: usize> Nodes<'_, VALUES> {
         self.latitude.holds(p.latitude) && self.longitude.holds(p.longitude)
     }
 
+    /// Is the point in the bounds? Else this number.
+    pub fn judge_bounds(&self, p: Point, number: Number) -> Result<(), Number> {
+        if self.holds(p) {
+            Ok(())
+        } else {
+            Err(number)
+        }
+    }
+
     /// The cell of a point in the bounds, after question 9.
     #[inline]
     pub fn cell(&self, p: Point) -> Result<Cell<VALUES>, Number> {
@@ -84,6 +93,16 @@ impl<const VALUES: usize> Nodes<'_, VALUES> {
         let north = weighed(1, 0, u * (q - v)) + weighed(1, 1, u * v);
         let area = i128::from(p * q);
         (i128::from(number) * area - south - north).abs() > area
+    }
+
+    /// The rows and columns of the nodes of the first and last rows and columns.
+    pub fn border(&self) -> impl Iterator<Item = (usize, usize)> {
+        let (rows, columns) = (self.latitude.count, self.longitude.count);
+        let of_rows = [0, rows - 1].into_iter();
+        let of_rows = of_rows.flat_map(move |row| (0..columns).map(move |column| (row, column)));
+        let of_columns =
+            (0..rows).flat_map(move |row| [0, columns - 1].map(|column| (row, column)));
+        of_rows.chain(of_columns)
     }
 
     /// The values of the node of a row and a column.

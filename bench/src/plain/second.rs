@@ -17,6 +17,7 @@ pub fn list(way: Way, image: &[u8], fixes: &[i64], answers: &mut [i64]) -> Numbe
 
 impl Source for Opened<'_> {
     const STOP: i64 = 1;
+    const BOUNDED: bool = true;
 
     #[inline]
     fn two_grids(&self) -> &TwoGrids<'_> {
@@ -40,15 +41,21 @@ fn check(grid: &TwoGrids) -> Result<[i64; 6], Number> {
     grid.judge_slopes(grid.steps()?)
 }
 
-/// Questions 1 to 6 of an image whose edition is 2 and whose kind is not 1.
+/// Questions 1 to 6 of an image whose edition is 2 and whose kind is not 1 or 2.
 fn open(image: &[u8]) -> Result<Opened<'_>, Number> {
+    open_kind(image, 0).map(Opened)
+}
+
+/// Questions 1 to 6 of an image whose edition is 2 and whose kind is to be this one, without dense
+/// corrections.
+pub fn open_kind(image: &[u8], kind: u32) -> Result<TwoGrids<'_>, Number> {
     let Some(end) = image.len().checked_sub(80) else {
         return Err(1);
     };
     let trailer = Trailer(&image[end..]);
-    if trailer.short(72) != 0 {
+    if trailer.short(72) != kind {
         return Err(2);
     }
     let [corrections, heights] = all_axes([(&trailer, 0), (&trailer, 32)])?;
-    TwoGrids::open(image, &trailer, corrections, heights).map(Opened)
+    TwoGrids::open(image, &trailer, corrections, heights)
 }

@@ -1,11 +1,12 @@
 //! Document 01's figures for its grid G, figures of edition 2 on G's corrections, without a dense grid
-//! and with one, and figures of VDatum and NTv2 files.
+//! and with one, and past the edge of other ones, and figures of VDatum and NTv2 files.
 
 mod edition_1;
 mod edition_2;
 mod edition_2_images;
 mod kind_1;
 mod kind_1_images;
+mod kind_2;
 mod ntv2;
 mod ntv2_files;
 mod ntv2_subgrids;
@@ -39,7 +40,7 @@ fn answer(grid: &Grid, way: Way, [north, east, height]: [i64; 3]) -> [i64; 5] {
     let mut five = [0; 5];
     let fix = [SOUTH + north, WEST + east, height];
     assert_eq!(list(way, &grid.image, &fix, &mut five), 0);
-    if five[4] == 0 {
+    if [0, 100].contains(&five[4]) {
         five[0] -= SOUTH;
         five[1] -= WEST;
     }

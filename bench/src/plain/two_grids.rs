@@ -17,11 +17,28 @@ pub struct TwoGrids<'a> {
 pub trait Source {
     /// The stop rule's distance.
     const STOP: i64;
+    /// Are questions 8, 10 and 15 put?
+    const BOUNDED: bool;
 
     fn two_grids(&self) -> &TwoGrids<'_>;
 
-    /// The corrections at a point in their bounds, after question 9 of their cell.
+    /// The corrections at a point, in their bounds where these are asked for, after question 9 of
+    /// their cell.
     fn corrections(&self, p: Point) -> Result<[i64; 2], Number>;
+
+    /// The height of an answer, by the quasi-geoid height at its Bessel point, with 0; or without
+    /// one 0 and 100.
+    #[inline]
+    fn height(&self, p: Point, by: impl Fn(i64) -> i64) -> Result<[i64; 2], Number> {
+        let heights = &self.two_grids().heights;
+        if heights.holds(p) {
+            Ok([by(heights.cell(p)?.value(0)), 0])
+        } else if Self::BOUNDED {
+            Err(15)
+        } else {
+            Ok([0, 100])
+        }
+    }
 }
 
 /// A list over an opened image, or the number that it got.
@@ -44,7 +61,10 @@ pub fn list(
 
 fn out<S: Source>(source: &S, p: Point, height: i64) -> Result<Values, Number> {
     let grid = source.two_grids();
-    judge_fix(&grid.corrections, p, height, 100_000_000)?;
+    judge_fix(p, height, 100_000_000)?;
+    if S::BOUNDED {
+        grid.corrections.judge_bounds(p, 8)?;
+    }
     let mut last = p;
     for count in 1..=5 {
         let [north, east] = source.corrections(last)?;
@@ -52,26 +72,28 @@ fn out<S: Source>(source: &S, p: Point, height: i64) -> Result<Values, Number> {
             latitude: p.latitude - north,
             longitude: p.longitude - east,
         };
-        if !grid.corrections.holds(next) {
-            return Err(10);
+        if S::BOUNDED {
+            grid.corrections.judge_bounds(next, 10)?;
         }
         let north = (next.latitude - last.latitude).abs();
         let east = (next.longitude - last.longitude).abs();
         if north <= S::STOP && east <= S::STOP {
-            let height = height - grid.height(next)?;
-            return Ok([next.latitude, next.longitude, height, count]);
+            let [height, number] = source.height(next, |it| height - it)?;
+            return Ok([next.latitude, next.longitude, height, count, number]);
         }
         last = next;
     }
     Err(11)
 }
 
-fn back(source: &impl Source, q: Point, height: i64) -> Result<Values, Number> {
-    let grid = source.two_grids();
-    judge_fix(&grid.corrections, q, height, 110_000_000)?;
+fn back<S: Source>(source: &S, q: Point, height: i64) -> Result<Values, Number> {
+    judge_fix(q, height, 110_000_000)?;
+    if S::BOUNDED {
+        source.two_grids().corrections.judge_bounds(q, 8)?;
+    }
     let [north, east] = source.corrections(q)?;
-    let height = height + grid.height(q)?;
-    Ok([q.latitude + north, q.longitude + east, height, 1])
+    let [height, number] = source.height(q, |it| height + it)?;
+    Ok([q.latitude + north, q.longitude + east, height, 1, number])
 }
 
 /// The corrections of a grid at a point in its bounds, after question 9 of their cell.
@@ -109,15 +131,6 @@ impl<'a> TwoGrids<'a> {
                 longitude: height_longitude,
             },
         })
-    }
-
-    /// The height at a point, after question 15 and question 9 of the height cell.
-    #[inline]
-    fn height(&self, p: Point) -> Result<i64, Number> {
-        if !self.heights.holds(p) {
-            return Err(15);
-        }
-        Ok(self.heights.cell(p)?.value(0))
     }
 
     /// Question 9 over the nodes of both grids, and the largest steps.

@@ -17,7 +17,7 @@ ghost use Rattle.rules.specs.Ways as ways;
 // The way back after questions 7 and 8, over an opened image: the corrections and the quasi-geoid height at the point, added.
 pub fn back_from(image: &[u8], l: Layout, q: Point, height: i64) -> Answer
     requires { ⌜ OpenAround (now image) l q × (natAbs height ≤ backHeightLimit) ⌝ }
-    ensures { λ r. ⌜ ways.answerOf r ≡ ways.back (ways.sourceOf (gridOf (now (image .entry)) l)) q height ⌝ }
+    ensures { λ r. ⌜ ways.answerOf r ≡ ways.back (ways.boundedSource (gridOf (now (image .entry)) l)) q height ⌝ }
 {
     match look_up(image, l, q) {
         PointLookup::Values(v) => {
@@ -29,7 +29,7 @@ pub fn back_from(image: &[u8], l: Layout, q: Point, height: i64) -> Answer
 }
 
 // A point plus corrections and its height plus z, after one evaluation.
-fn added(q: Point, height: i64, c: Correction, z: i64) -> Position
+pub fn added(q: Point, height: i64, c: Correction, z: i64) -> Position
     requires { ⌜ PointWithin q × (natAbs height ≤ backHeightLimit) × CorrectionWithin c × (natAbs z ≤ quasiGeoidLimit) ⌝ }
     ensures { λ r. ⌜ r ≡ ways.position (ways.plus q c) (height +ℤ z) 1 ⌝ }
 {

@@ -1,2 +1,3 @@
--- A law of planes, for the functions that make lines of them.
+-- Laws of planes, for the functions that make lines of them and that ask these.
 pub mod SecondRow
+pub mod PlaneLines

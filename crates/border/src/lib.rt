@@ -1,10 +1,12 @@
-// Question 21: the nodes on the border of a dense grid beside the parent's exact value. The border lies on coarse grid lines, where the
-// exact value is that between two coarse nodes: one axis is enough, and 64 bits.
+// The nodes on the border of a grid. Question 21: those of a dense grid beside the parent's exact value. The border lies on coarse grid
+// lines, where the exact value is that between two coarse nodes: one axis is enough, and 64 bits. Question 22: those of kind 2's
+// corrections are zero.
 use axis::far_bound;
 use axis::locate;
 use axis::offset_on;
 use nodes::beside;
 use numbers::distance;
+use numbers::is_within;
 use rules::Axis;
 use rules::Layout;
 use rules::Plane;
@@ -18,10 +20,10 @@ ghost use Rattle.rules.specs.Units.{longitudeLimit, spacingMost};
 ghost use Rattle.rules.specs.Image.{plane, gridOf};
 ghost use Rattle.rules.specs.Limits.{AxisPasses, InImage, Open};
 ghost use Rattle.rules.specs.Dense.{onLine, axisAligned, question20};
-ghost use Rattle.rules.specs.Check.{borderAgrees, question21};
+ghost use Rattle.rules.specs.Check.{borderAgrees, question21, bothZero, borderZero, question22};
 ghost use Rattle.steps.specs.Walk.{RunInside, runValue, Narrow};
 ghost use Rattle.returning.specs.Sides.{nodeClose, nodeAgrees, sideAgrees, lineOf};
-ghost use Rattle.border.specs.Lines.{rowsOf, columnsOf, lineRun, lineValue, linesAgree, LinesInside};
+ghost use Rattle.border.specs.Lines.{rowsOf, columnsOf, lineRun, lineValue, linesAgree, sidesZero, LinesInside};
 
 // The nodes of a plane as grid lines, its rows or its columns: a line for each node of the axis `across`, and on it a node for each of the
 // axis `along`. The first values of two neighbouring lines are `apart` bytes apart, those of two neighbours on a line `stride` bytes.
@@ -181,4 +183,58 @@ fn is_close(f: i64, e: i64, next: i64, part: u64, spacing: u64) -> bool
 {
     let exact = e * (spacing - part) as i64 + next * part as i64;
     distance(f * spacing as i64, exact) <= spacing
+}
+
+// Both corrections of every node on the border of the corrections.
+pub fn border_is_zero(image: &[u8], l: Layout) -> bool
+    requires { ⌜ Open (length (now image)) l ⌝ }
+    ensures { λ r. ⌜ r ≡ question22 (gridOf (now (image .entry)) l) ⌝ }
+{
+    if plane_is_zero(image, l.latitude) {
+        plane_is_zero(image, l.longitude)
+    } else {
+        false
+    }
+}
+
+// One correction of every node on the border: its first and its last row, then its first and its last column.
+fn plane_is_zero(image: &[u8], p: Plane) -> bool
+    requires { ⌜ InImage (length (now image)) p ⌝ }
+    ensures { λ r. ⌜ r ≡ borderZero (p .geometry) (plane (now (image .entry)) p) ⌝ }
+{
+    let size = image.len() as u64;
+    if sides_are_zero(image, rows_of(size, p)) {
+        sides_are_zero(image, columns_of(size, p))
+    } else {
+        false
+    }
+}
+
+// Two opposite sides: the first and the last line.
+fn sides_are_zero(image: &[u8], l: Lines) -> bool
+    requires { ⌜ LinesInside (length (now image)) l ⌝ }
+    ensures { λ r. ⌜ r ≡ sidesZero (now (image .entry)) l ⌝ }
+{
+    let size = image.len() as u64;
+    let first = line_run(size, l, 0);
+    let last = line_run(size, l, l.across.count - 1);
+    runs_are_zero(image, first, last, l.along.count)
+}
+
+// Every value of two runs of so many.
+fn runs_are_zero(image: &[u8], first: Run, last: Run, count: u64) -> bool
+    requires { ⌜ RunInside (length (now image)) first count × RunInside (length (now image)) last count ⌝ }
+    ensures { λ r. ⌜ r ≡ bothZero count (runValue (now (image .entry)) first) (runValue (now (image .entry)) last) ⌝ }
+{
+    let mut node = 0;
+    while node < count {
+        if !is_within(run_value(image, first, node), 0) {
+            return false;
+        }
+        if !is_within(run_value(image, last, node), 0) {
+            return false;
+        }
+        node += 1;
+    }
+    true
 }

@@ -8,17 +8,17 @@ use lib.IntN.{ℤ}
 use lib.ListN.{length, take, drop, length-append}
 use lib.Seq.{take-all, take-at, take-add, drop-append-add}
 use Rattle.rules.specs.declared.Point.{Point}
-use Rattle.rules.specs.declared.Position.{Position}
 use Rattle.rules.specs.Answers.{Outcome, values, number}
+use Rattle.rules.specs.Ways.{Accepted}
 use Rattle.rules.specs.Lists.{fiveOf, answersOf}
 use Rattle.rules.proofs.Lent.{front}
 use Rattle.fixes.specs.Fix.{fixPoint, atFix}
 
-five-long : (a : Outcome Position) → length (fiveOf a) ≡ 5
+five-long : (a : Outcome Accepted) → length (fiveOf a) ≡ 5
 five-long (values p) = refl
 five-long (number n) = refl
 
-module _ (single : Point → ℤ → Outcome Position) where
+module _ (single : Point → ℤ → Outcome Accepted) where
   -- Five numbers for each fix.
   pub answers-long : (fixes : List ℤ) (n : ℕ) → length fixes ≡ 3 * n → length (answersOf single fixes) ≡ 5 * n
   answers-long [] n h = omega arith
@@ -54,7 +54,7 @@ module _ (single : Point → ℤ → Outcome Position) where
     written-none answers k e = rw e
 
     -- One more, at the front of the part that was lent on.
-    pub written-more : (answers part rest post : List ℤ) (k : ℕ) (a : Outcome Position) → 3 * k + 2 < length fixes → 5 * k ≤ length answers
+    pub written-more : (answers part rest post : List ℤ) (k : ℕ) (a : Outcome Accepted) → 3 * k + 2 < length fixes → 5 * k ≤ length answers
         → part ≡ fiveOf a ++ rest → a ≡ atFix single fixes k
         → Written answers k → Written (take (5 * k) answers ++ (part ++ post)) (k + 1)
     unfolding Written

@@ -5,12 +5,12 @@ use Prim.Native.Nat.{ℕ, _+_, _*_, _<_}
 use lib.IntN.{ℤ}
 use lib.ListN.{length, take, drop}
 use Rattle.rules.specs.declared.Point.{Point}
-use Rattle.rules.specs.declared.Position.{Position}
 use Rattle.rules.specs.Answers.{Outcome}
+use Rattle.rules.specs.Ways.{Accepted}
 use Rattle.rules.specs.Lists.{fiveOf}
 use Rattle.fixes.specs.Fix.{atFix}
 
 -- The list l has the answers' length, and at 5 × k stand the five numbers of the single conversion of fix k.
-pub record Content (single : Point → ℤ → Outcome Position) (fixes answers l : List ℤ) : Type 0 where
+pub record Content (single : Point → ℤ → Outcome Accepted) (fixes answers l : List ℤ) : Type 0 where
   pub same-length : length l ≡ length answers
   pub each : (k : ℕ) → 3 * k + 2 < length fixes → take 5 (drop (5 * k) l) ≡ fiveOf (atFix single fixes k)

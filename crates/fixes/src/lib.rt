@@ -4,8 +4,10 @@ use image::open;
 use refusals::refusal_number;
 use rules::Answer;
 use rules::Layout;
+use rules::NO_HEIGHT;
 use rules::Opened;
 use rules::Point;
+use rules::Position;
 use rules::Refusal;
 use rules::Way;
 use ways::convert_over;
@@ -19,7 +21,7 @@ ghost use Rattle.rules.specs.Image.{gridOf};
 ghost use Rattle.rules.specs.Limits.{Open};
 ghost use Rattle.rules.specs.Ways.{sourceOf, convertOver, answerOf};
 ghost use Rattle.rules.specs.Lists.{fiveOf, answersOf, question14, convertList, listOut, listBack, afterOut, afterBack};
-ghost use Rattle.fixes.specs.Fix.{atFix, CountAtMostFive};
+ghost use Rattle.fixes.specs.Fix.{atFix, numbersOf, CountAtMostFive};
 
 // All fixes out: 0 with every answer written, or the number of the question that left the answer list unchanged.
 pub fn list_out(image: &[u8], fixes: &[i64], answers: &mut [i64]) -> i64
@@ -100,24 +102,35 @@ fn convert_fix(way: Way, image: &[u8], l: Layout, fixes: &[i64], k: usize) -> An
     convert_over(way, image, l, p, height)
 }
 
-// Writes an answer at the front of the rest of the answer list: its values and 0, or four zeros and the number.
+// Writes an answer at the front of the rest of the answer list: its values and 0, or without a height 100; or four zeros and the number.
 fn write_answer(rest: &mut [i64], a: Answer)
     requires { ⌜ (5 ≤ length (now rest)) × CountAtMostFive (answerOf a) ⌝ }
     ensures { λ _. ⌜ now (rest .exit) ≡ fiveOf (answerOf a) ++ drop 5 (now (rest .entry)) ⌝ }
 {
     match a {
         Answer::Values(p) => {
-            let latitude = p.latitude;
-            let longitude = p.longitude;
-            let height = p.height;
-            let count = p.count as i64;
-            write_five(rest, latitude, longitude, height, count, 0);
+            write_position(rest, p, 0);
+        }
+        Answer::WithoutHeight(p) => {
+            write_position(rest, p, NO_HEIGHT as i64);
         }
         Answer::Refused(r) => {
             let n = refusal_number(r);
             write_five(rest, 0, 0, 0, 0, n);
         }
     }
+}
+
+// A position and its number, likewise.
+fn write_position(rest: &mut [i64], p: Position, number: i64)
+    requires { ⌜ (5 ≤ length (now rest)) × (p .count ≤ 5) ⌝ }
+    ensures { λ _. ⌜ now (rest .exit) ≡ numbersOf p number ++ drop 5 (now (rest .entry)) ⌝ }
+{
+    let latitude = p.latitude;
+    let longitude = p.longitude;
+    let height = p.height;
+    let count = p.count as i64;
+    write_five(rest, latitude, longitude, height, count, number);
 }
 
 // Five numbers at the front of the part that is lent; what follows them is unchanged.

@@ -10,7 +10,7 @@ use Rattle.rules.specs.Units.{correctionLimit, quasiGeoidLimit}
 use Rattle.rules.specs.Answers.{values, ask, andThen}
 use Rattle.rules.specs.Limits.{GeometryPasses}
 use Rattle.rules.specs.Bilinear.{cornersFor, valueAt}
-use Rattle.rules.specs.Lookup.{inside, squarePasses}
+use Rattle.rules.specs.Lookup.{some, inside, squarePasses}
 use Rattle.rules.proofs.Answers.{asked}
 use Rattle.rules.proofs.Limits.{corners-within}
 use Rattle.lookup.specs.Held.{Bounded, spacingsOf, cellPlace, valueIn}
@@ -55,6 +55,6 @@ then-two false t m n a f = refl
 
 -- The height's lookup weighs the corners of the point's cell.
 pub height-weighed : (g : Geometry) (f : ℕ → ℕ → ℤ) (q : Point)
-    → andThen (heightCell g f q) (λ h. values (heightBetween h)) ≡ heightOn g f q
+    → andThen (heightCell g f q) (λ h. values (some (heightBetween h))) ≡ heightOn g f q
 unfolding heightCell heightOn valueAt valueIn
-height-weighed g f q = then-two (inside g q) (squarePasses quasiGeoidLimit (cornersFor g f q)) 15 9 _ heightBetween
+height-weighed g f q = then-two (inside g q) (squarePasses quasiGeoidLimit (cornersFor g f q)) 15 9 _ (λ h. some (heightBetween h))

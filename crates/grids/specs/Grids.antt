@@ -1,21 +1,22 @@
 -- The lookups where heights stand on a separate grid: the corners of a point's cell, those of the corrections on the grid that serves the
 -- point, with the questions put to them, and the values between them.
-use mathlib.Core.Bool.{Bool, _&&_}
+use mathlib.Core.Bool.{Bool, cond, _&&_}
 use Prim.Native.Nat.{ℕ}
 use lib.IntN.{ℤ}
 use Rattle.rules.specs.declared.Geometry.{Geometry}
 use Rattle.rules.specs.declared.Plane.{Plane}
 use Rattle.rules.specs.declared.Layout.{Layout}
 use Rattle.rules.specs.declared.Point.{Point}
+use Rattle.rules.specs.declared.Correction.{Correction}
 use Rattle.rules.specs.Units.{correctionLimit, quasiGeoidLimit}
 use Rattle.rules.specs.Answers.{Outcome, values, number, numberOf, ask, andThen}
 use Rattle.rules.specs.Image.{Grid, besideOf}
 use Rattle.rules.specs.Limits.{CornersWithin}
 use Rattle.rules.specs.Bilinear.{corners, cornersFor, valueAt}
-use Rattle.rules.specs.Lookup.{inside, squarePasses, gridFor}
+use Rattle.rules.specs.Lookup.{Height, some, none, inside, squarePasses, gridFor}
 use Rattle.nodes.specs.Either.{either}
 use Rattle.lookup.specs.declared.PointValues.{PointValues}
-use Rattle.lookup.specs.Held.{spacingsOf, cellPlace, InCellOf, valueIn}
+use Rattle.lookup.specs.Held.{spacingsOf, cellPlace, InCellOf, valueIn, PointFound, valuesFound}
 use Rattle.grids.specs.declared.CorrectionSquares.{CorrectionSquares}
 use Rattle.grids.specs.declared.CorrectionCorners.{CorrectionCorners}
 use Rattle.grids.specs.declared.CorrectionCell.{CorrectionCell}
@@ -23,6 +24,8 @@ use Rattle.grids.specs.declared.CorrectionCell.the-variants as correctio
 use Rattle.grids.specs.declared.HeightCorners.{HeightCorners}
 use Rattle.grids.specs.declared.HeightCell.{HeightCell}
 use Rattle.grids.specs.declared.HeightCell.the-variants as height-cell
+use Rattle.grids.specs.declared.CorrectionLookup.{CorrectionLookup}
+use Rattle.grids.specs.declared.CorrectionLookup.the-variants as correction-lookup
 
 -- Are a point's corrections taken from the dense grid?
 abbrev pub takenDense : Layout → Point → Bool
@@ -68,30 +71,31 @@ pub record HeightsWeighed (h : HeightCorners) : Type 0 where
   pub height-within : CornersWithin quasiGeoidLimit (h .height)
   pub place : InCellOf (h .spacings) (h .at)
 
--- The height between its corners, and all values between the corners on both grids.
+-- The corrections between their corners, the height between its own, and all values between the corners on both grids.
+abbrev pub correctionsBetween : CorrectionCorners → Correction
+correctionsBetween c =
+    record { latitude = valueIn (c .latitude) (c .spacings) (c .at); longitude = valueIn (c .longitude) (c .spacings) (c .at) }
+
 abbrev pub heightBetween : HeightCorners → ℤ
 heightBetween h = valueIn (h .height) (h .spacings) (h .at)
 
 abbrev pub valuesOn : CorrectionCorners → HeightCorners → PointValues
-valuesOn c h =
-    record {
-      correction = record {
-        latitude = valueIn (c .latitude) (c .spacings) (c .at);
-        longitude = valueIn (c .longitude) (c .spacings) (c .at);
-      };
-      height = heightBetween h;
-    }
+valuesOn c h = record { correction = correctionsBetween c; height = heightBetween h }
 
 -- The lookup of all values at a point in the bounds of the corrections.
-unfoldable pub gridsLookup : Grid → Point → Outcome PointValues
+unfoldable pub gridsLookup : Grid → Point → Outcome PointFound
 gridsLookup g p =
     andThen (correctionCellFor g p) (λ c.
     andThen (heightCell (g .heights) (g .height) p) (λ h.
-    values (valuesOn c h)))
+    values (valuesFound (valuesOn c h))))
 
--- The lookup of the height at a point.
-unfoldable pub heightOn : Geometry → (ℕ → ℕ → ℤ) → Point → Outcome ℤ
-heightOn g f q = ask (inside g q) 15 (ask (squarePasses quasiGeoidLimit (cornersFor g f q)) 9 (values (valueAt g f q)))
+-- The lookup of the height at a point,
+unfoldable pub heightOn : Geometry → (ℕ → ℕ → ℤ) → Point → Outcome Height
+heightOn g f q = ask (inside g q) 15 (ask (squarePasses quasiGeoidLimit (cornersFor g f q)) 9 (values (some (valueAt g f q))))
+
+-- and kind 2's, at any point.
+abbrev pub heightOnOrNone : Geometry → (ℕ → ℕ → ℤ) → Point → Outcome Height
+heightOnOrNone g f q = cond (inside g q) (heightOn g f q) (values none)
 
 -- The code's answers, in these terms.
 abbrev pub correctionCellOf : CorrectionCell → Outcome CorrectionCorners
@@ -101,3 +105,7 @@ correctionCellOf (correction-cell.Refused r) = number (numberOf r)
 abbrev pub heightCellOf : HeightCell → Outcome HeightCorners
 heightCellOf (height-cell.Corners h) = values h
 heightCellOf (height-cell.Refused r) = number (numberOf r)
+
+abbrev pub correctionLookupOf : CorrectionLookup → Outcome Correction
+correctionLookupOf (correction-lookup.Found c) = values c
+correctionLookupOf (correction-lookup.Refused r) = number (numberOf r)

@@ -1,5 +1,5 @@
 // The lookups where heights stand on a separate grid: the corners of a point's cell on either grid, those of the corrections on the dense
-// grid where there is one and the point lies in its bounds, and the values between them.
+// grid where there is one and the point lies in its bounds, and the values between them; and kind 2's, at any point.
 use geometry::in_bounds;
 use lookup::CellCorners;
 use lookup::HeldCell;
@@ -33,12 +33,12 @@ ghost use Rattle.rules.specs.Units.{correctionLimit};
 ghost use Rattle.rules.specs.Image.{rows, columns, plane, gridOf};
 ghost use Rattle.rules.specs.Limits.{GeometryPasses, InImage, Open, OpenAround};
 ghost use Rattle.rules.specs.Bilinear.{corners};
-ghost use Rattle.rules.specs.Lookup.{squarePasses, heightLookupOf, gridFor};
+ghost use Rattle.rules.specs.Lookup.{squarePasses, correctionsOrZero, heightLookupOf, gridFor};
 ghost use Rattle.nodes.specs.Either.{either};
 ghost use Rattle.lookup.specs.Held.{heldAt, pointLookupOf};
 ghost use Rattle.grids.specs.Grids.{takenDense, latitudePlane, longitudePlane, squaresAt, correctionCellFor, correctionCellOf};
 ghost use Rattle.grids.specs.Grids.{heightCell, heightCellOf, CorrectionsWeighed, HeightsWeighed, heightBetween, valuesOn};
-ghost use Rattle.grids.specs.Grids.{gridsLookup, heightOn};
+ghost use Rattle.grids.specs.Grids.{gridsLookup, heightOn, heightOnOrNone, correctionLookupOf};
 
 // Both corrections at the corners of a cell.
 pub struct CorrectionSquares {
@@ -69,6 +69,12 @@ pub enum CorrectionCell {
 
 pub enum HeightCell {
     Corners(HeightCorners),
+    Refused(Refusal),
+}
+
+// What the lookup of the corrections at a point answers: they, or a refusal.
+pub enum CorrectionLookup {
+    Found(Correction),
     Refused(Refusal),
 }
 
@@ -286,4 +292,53 @@ pub fn height_on(image: &[u8], p: Plane, q: Point) -> HeightLookup
         HeightCell::Corners(h) => HeightLookup::Height(height_between(h)),
         HeightCell::Refused(r) => HeightLookup::Refused(r),
     }
+}
+
+// Kind 2's lookup of the corrections, at any point: outside the bounds both are zero, and no cell is read. This and the next read their
+// cell themselves, so that `correction_cell` and `height_on` keep one place in a conversion from which they are called.
+pub fn corrections_or_zero(image: &[u8], l: Layout, p: Point) -> CorrectionLookup
+    requires { ⌜ Open (length (now image)) l ⌝ }
+    ensures { λ r. ⌜ correctionLookupOf r ≡ correctionsOrZero (gridOf (now (image .entry)) l) p ⌝ }
+{
+    let g = l.latitude.geometry;
+    if !in_bounds(g, p) {
+        return CorrectionLookup::Found(Correction {
+            latitude: 0,
+            longitude: 0,
+        });
+    }
+    let cell = cell_of(g, p);
+    let c = corrections_at(image, l, false, cell.row, cell.column);
+    let a = c.latitude;
+    let b = c.longitude;
+    if !corrections_pass(a, b) {
+        return CorrectionLookup::Refused(Refusal::NodeLimits);
+    }
+    let spacings = spacings_of(g);
+    let at = cell.at;
+    let latitude = value_between(a, spacings, at);
+    let longitude = value_between(b, spacings, at);
+    CorrectionLookup::Found(Correction {
+        latitude,
+        longitude,
+    })
+}
+
+// And of the height: off the height grid there is none.
+pub fn height_or_none(image: &[u8], p: Plane, q: Point) -> HeightLookup
+    requires { ⌜ InImage (length (now image)) p ⌝ }
+    ensures { λ r. ⌜ heightLookupOf r ≡ heightOnOrNone (p .geometry) (plane (now (image .entry)) p) q ⌝ }
+{
+    let g = p.geometry;
+    if !in_bounds(g, q) {
+        return HeightLookup::NoHeight;
+    }
+    let cell = cell_of(g, q);
+    let corners = corners_at(image, p, cell.row, cell.column);
+    if !square_passes(corners, QUASI_GEOID_LIMIT) {
+        return HeightLookup::Refused(Refusal::NodeLimits);
+    }
+    let spacings = spacings_of(g);
+    let at = cell.at;
+    HeightLookup::Height(value_between(corners, spacings, at))
 }

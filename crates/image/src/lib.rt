@@ -21,7 +21,7 @@ ghost use mathlib.Core.List.{List};
 ghost use Prim.Native.Nat.{ℕ, _≤_};
 ghost use lib.ListN.{length};
 ghost use Rattle.rules.specs.Answers.{values};
-ghost use Rattle.rules.specs.Image.{twoGridTrailerOf, isNested, layoutOf, twoGridLayoutOf, nestedLayoutOf, layoutFor};
+ghost use Rattle.rules.specs.Image.{twoGridTrailerOf, isNested, isUnbounded, layoutOf, twoGridLayoutOf, nestedLayoutOf, layoutFor};
 ghost use Rattle.rules.specs.Questions.{question6, backsPass, allBacksPass, opening, openingTwo, openingNested, openedOf};
 ghost use Rattle.verdicts.specs.Verdict.{verdictOf};
 ghost use Rattle.image.specs.Planes.{planeAt};
@@ -111,6 +111,7 @@ fn nodes_layout(t: Trailer, size: u64) -> Layout
     Layout {
         separate: false,
         nested: false,
+        unbounded: false,
         latitude,
         longitude,
         height,
@@ -118,10 +119,10 @@ fn nodes_layout(t: Trailer, size: u64) -> Layout
     }
 }
 
-// Edition 2's: a correction node has 8 bytes, a height node 4.
+// Edition 2's: a correction node has 8 bytes, a height node 4. By its kind it is unbounded.
 fn two_grid_layout(t: TwoGridTrailer, size: u64) -> Layout
     requires { ⌜ backsPass t size ≡ true ⌝ }
-    ensures { λ r. ⌜ r ≡ twoGridLayoutOf size (t .corrections .geometry) (t .heights .geometry) ⌝ }
+    ensures { λ r. ⌜ r ≡ twoGridLayoutOf (isUnbounded t) size (t .corrections .geometry) (t .heights .geometry) ⌝ }
 {
     let c = t.corrections.geometry;
     let h = t.heights.geometry;
@@ -129,9 +130,11 @@ fn two_grid_layout(t: TwoGridTrailer, size: u64) -> Layout
     let latitude = plane_at(c, first, 8);
     let longitude = plane_at(c, first + 4, 8);
     let height = plane_at(h, size - t.heights.back, 4);
+    let unbounded = is_unbounded(t);
     Layout {
         separate: true,
         nested: false,
+        unbounded,
         latitude,
         longitude,
         height,
@@ -153,6 +156,7 @@ fn nested_layout(d: GridTrailer, t: TwoGridTrailer, size: u64) -> Layout
     Layout {
         separate: true,
         nested: true,
+        unbounded: false,
         latitude,
         longitude,
         height,
@@ -176,4 +180,11 @@ fn is_nested(t: TwoGridTrailer) -> bool
     ensures { λ r. ⌜ r ≡ isNested t ⌝ }
 {
     t.kind == 1
+}
+
+// Kind 2 answers points outside the bounds too.
+fn is_unbounded(t: TwoGridTrailer) -> bool
+    ensures { λ r. ⌜ r ≡ isUnbounded t ⌝ }
+{
+    t.kind == 2
 }

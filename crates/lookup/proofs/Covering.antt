@@ -2,12 +2,11 @@
 -- so a cell of the grid is found again by its sides' distances from the bounds.
 use mathlib.Core.Bool.{Bool, true, false, _&&_}
 use mathlib.Core.List.{List}
-use mathlib.Core.Path.{_≡_, refl, sym, ap, _∙_}
+use mathlib.Core.Path.{_≡_, refl}
 use Prim.Native.Nat.{ℕ, _+_, _-_, _*_, _≤_}
 use native.Mathlib.Omega.{arith}
 use lib.Dec.{leb}
 use lib.IntN.{ℤ}
-use lib.ListN.{length}
 use Rattle.integers.specs.Booleans.{and-left, and-right}
 use Rattle.integers.specs.Machine.{zarith}
 use Rattle.rules.specs.declared.Axis.{Axis}
@@ -15,14 +14,13 @@ use Rattle.rules.specs.declared.Geometry.{Geometry}
 use Rattle.rules.specs.declared.Layout.{Layout}
 use Rattle.rules.specs.declared.Point.{Point}
 use Rattle.rules.specs.Image.{gridOf}
-use Rattle.rules.specs.Limits.{Sized, GeometryPasses, Open, OpenAround}
+use Rattle.rules.specs.Limits.{Sized, OpenAround}
 use Rattle.rules.specs.Bilinear.{offset, partOf, cellFor, partFor}
 use Rattle.rules.specs.Lookup.{onAxis, inside, gridFor}
-use Rattle.rules.proofs.Cells.{from-start, cell-most, cell-is, less-part, part-for-most, on-latitude, on-longitude}
+use Rattle.rules.proofs.Cells.{from-start, cell-most, cell-is, less-part}
 use Rattle.rules.proofs.Nesting.{Aligned, coarse-offset, latitude-aligned, longitude-aligned}
 use Rattle.axis.specs.Place.{reaches}
-use Rattle.lookup.specs.declared.CellPlace.{CellPlace}
-use Rattle.lookup.specs.Held.{Bounded, spacingsOf, offsetsOf, cellPlace, InCellOf}
+use Rattle.lookup.specs.Held.{Bounded}
 
 -- ---- one axis d in the bounds of another, c
 pub record CoversAxis (c d : Axis) : Type 0 where

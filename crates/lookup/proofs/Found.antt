@@ -3,7 +3,7 @@
 use mathlib.Core.Bool.{Bool, true, false, cond, _&&_}
 use mathlib.Core.List.{List}
 use mathlib.Core.Path.{_≡_, refl, sym, ap, subst, _∙_}
-use Prim.Native.Nat.{ℕ, _+_, _-_, _*_, _≤_}
+use Prim.Native.Nat.{ℕ, _-_, _*_, _≤_}
 use native.Mathlib.Nat.{mul-pos}
 use native.Mathlib.Omega.{arith}
 use lib.Dec.{leb, ltb}
@@ -21,8 +21,8 @@ use Rattle.rules.specs.Image.{Grid, gridOf}
 use Rattle.rules.specs.Limits.{OpenAround, CornersWithin, CorrectionWithin}
 use Rattle.rules.specs.Bilinear.{corners, cornersFor, valueAt}
 use Rattle.rules.specs.Lookup.{inside, squarePasses, question9, correctionsPass, correctionsAt, correctionLookup, correctionGridLookup}
-use Rattle.rules.specs.Lookup.{heightLookup, gridFor}
-use Rattle.rules.specs.Ways.{sourceOf}
+use Rattle.rules.specs.Lookup.{some, heightLookup, gridFor}
+use Rattle.rules.specs.Ways.{boundedSource}
 use Rattle.rules.proofs.Answers.{asked}
 use Rattle.rules.proofs.Cells.{on-latitude, on-longitude}
 use Rattle.rules.proofs.Limits.{corners-within}
@@ -76,10 +76,10 @@ corrections-within {h} t k =
     }
 
 -- A height that is found in a held cell is within question 9's limit.
-pub height-in-within : (h : HeldCell) (bounds : Geometry) (p : Point) (z : ℤ) → Holds h bounds p → heightIn h bounds p ≡ values z
-    → natAbs z ≤ quasiGeoidLimit
+pub height-in-within : (h : HeldCell) (bounds : Geometry) (p : Point) (z : ℤ) → Holds h bounds p
+    → heightIn h bounds p ≡ values (some z) → natAbs z ≤ quasiGeoidLimit
 height-in-within h bounds p z k e =
-    let t = asked (h .passes) 9 _ z e in
+    let t = asked (h .passes) 9 _ (some z) e in
     let v : valueIn (h .corners .height) (h .spacings) (placeIn h bounds p) ≡ z = cc (t .1) in
     rw v at (between-within _ (passing k (t .0) .height) (k .place))
 
@@ -186,8 +186,8 @@ module _ (bounds : Geometry) (g : Grid) (p : Point) (s : Serves bounds (g .corre
       let f = cornersFor (g .corrections) (g .height) p in
       let passes = cell-asked ∙ (λ i. cond (one i) (correctionsPass g p) (question9 g p)) in
       let corners : heldAt bounds g p .corners .height ≡ f = λ i. cond (one i) zeros f in
-      (λ i. ask (passes i) 9 (values (valueIn (corners i) (spacingsOf (g .corrections)) (place-is bounds g p s i))))
-      ∙ (λ i. ask (question9 g p) 9 (values (valueAt (sym same i) (g .height) p)))
+      (λ i. ask (passes i) 9 (values (some (valueIn (corners i) (spacingsOf (g .corrections)) (place-is bounds g p s i)))))
+      ∙ (λ i. ask (question9 g p) 9 (values (some (valueAt (sym same i) (g .height) p))))
 
 -- Where heights stand at the corrections' nodes, the corners that were read of the point's cell answer question 9, and have all values.
 module _ (g : Grid) (p : Point) (one : g .separate ≡ false) {cell : CellPlace} (e : cell ≡ cellPlace (g .corrections) p)
@@ -219,24 +219,24 @@ module _ (g : Grid) (p : Point) (one : g .separate ≡ false) {cell : CellPlace}
 
 -- The grid that serves a point answers as the source does: a dense grid has its heights on a separate one.
 by-its-grid : (b : List ℕ) (l : Layout) (p : Point) → OpenAround b l p → let k = gridFor (gridOf b l) p in
-    cond (k .separate) (correctionGridLookup k p) (correctionLookup k p) ≡ sourceOf (gridOf b l) .corrections p
+    cond (k .separate) (correctionGridLookup k p) (correctionLookup k p) ≡ boundedSource (gridOf b l) .corrections p
 by-its-grid b l p o = by (l .nested && inside (l .dense .geometry) p) refl
   where
     by : (t : Bool) → (l .nested && inside (l .dense .geometry) p) ≡ t → let k = gridFor (gridOf b l) p in
-        cond (k .separate) (correctionGridLookup k p) (correctionLookup k p) ≡ sourceOf (gridOf b l) .corrections p
+        cond (k .separate) (correctionGridLookup k p) (correctionLookup k p) ≡ boundedSource (gridOf b l) .corrections p
     by true t = rw (t, o .layout .nests (and-left _ _ t) .separate)
     by false t = rw t
 
 -- So the source's lookup puts question 9 to the corners of the held cell, and weighs the corrections there.
 pub corrections-from : (b : List ℕ) (l : Layout) (p : Point) (h : HeldCell) → OpenAround b l p
     → h ≡ heldAt (l .latitude .geometry) (gridFor (gridOf b l) p) p
-    → sourceOf (gridOf b l) .corrections p ≡ ask (h .passes) 9 (values (correctionsIn h (l .latitude .geometry) p))
+    → boundedSource (gridOf b l) .corrections p ≡ ask (h .passes) 9 (values (correctionsIn h (l .latitude .geometry) p))
 corrections-from b l p h o e =
     rw e (sym (grid-lookup (l .latitude .geometry) (gridFor (gridOf b l) p) p (serves b l p o) ∙ by-its-grid b l p o))
 
 -- Corrections that are found are within their limit.
 pub found-within : (b : List ℕ) (l : Layout) (p : Point) (c : Correction) → OpenAround b l p
-    → sourceOf (gridOf b l) .corrections p ≡ values c → CorrectionWithin c
+    → boundedSource (gridOf b l) .corrections p ≡ values c → CorrectionWithin c
 found-within b l p c o e =
     let bounds = l .latitude .geometry in
     let g = gridFor (gridOf b l) p in

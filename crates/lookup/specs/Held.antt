@@ -13,7 +13,7 @@ use Rattle.rules.specs.Answers.{Outcome, values, number, numberOf, ask}
 use Rattle.rules.specs.Image.{Grid}
 use Rattle.rules.specs.Limits.{GeometryPasses}
 use Rattle.rules.specs.Bilinear.{offset, cellFor, partFor, corners, bilinear, valueAt}
-use Rattle.rules.specs.Lookup.{inside, squarePasses, question9, correctionsAt}
+use Rattle.rules.specs.Lookup.{Height, some, inside, squarePasses, question9, correctionsAt}
 use Rattle.axis.specs.Place.{reaches}
 use Rattle.bilinear.specs.Mean.{Spacing, InCell}
 use Rattle.lookup.specs.declared.Spacings.{Spacings}
@@ -140,8 +140,8 @@ correctionsIn h bounds p =
     let at = placeIn h bounds p in
     record { latitude = valueIn (h .corners .latitude) (h .spacings) at; longitude = valueIn (h .corners .longitude) (h .spacings) at }
 
-abbrev pub heightIn : HeldCell → (bounds : Geometry) → Point → Outcome ℤ
-heightIn h bounds p = ask (h .passes) 9 (values (valueIn (h .corners .height) (h .spacings) (placeIn h bounds p)))
+abbrev pub heightIn : HeldCell → (bounds : Geometry) → Point → Outcome Height
+heightIn h bounds p = ask (h .passes) 9 (values (some (valueIn (h .corners .height) (h .spacings) (placeIn h bounds p))))
 
 -- All three values at a place in a cell.
 abbrev pub valuesIn : CellCorners → Spacings → PlaceInCell → PointValues
@@ -151,12 +151,22 @@ valuesIn c s at =
       height = valueIn (c .height) s at;
     }
 
+-- What is found at a point: its corrections, and its height or that it has none.
+pub record PointFound : Type 0 where
+  pub correction : Correction
+  pub height : Height
+
+abbrev pub pointFound : Correction → Height → PointFound
+pointFound c z = record { correction = c; height = z }
+
 -- The lookup of all values at a point in the bounds, on one grid: question 9 for its cell, then the values.
-unfoldable pub nodeLookup : Grid → Point → Outcome PointValues
-nodeLookup g p =
-    ask (question9 g p) 9 (values (record { correction = correctionsAt g p; height = valueAt (g .corrections) (g .height) p }))
+unfoldable pub nodeLookup : Grid → Point → Outcome PointFound
+nodeLookup g p = ask (question9 g p) 9 (values (pointFound (correctionsAt g p) (some (valueAt (g .corrections) (g .height) p))))
 
 -- The code's answer, in these terms.
-abbrev pub pointLookupOf : PointLookup → Outcome PointValues
-pointLookupOf (looked-up.Values v) = values v
+abbrev pub valuesFound : PointValues → PointFound
+valuesFound v = pointFound (v .correction) (some (v .height))
+
+abbrev pub pointLookupOf : PointLookup → Outcome PointFound
+pointLookupOf (looked-up.Values v) = values (valuesFound v)
 pointLookupOf (looked-up.Refused r) = number (numberOf r)

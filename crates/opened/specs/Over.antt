@@ -2,7 +2,6 @@
 use mathlib.Core.List.{List}
 use mathlib.Core.Path.{_≡_}
 use Prim.Native.Nat.{ℕ}
-use lib.IntN.{ℤ}
 use lib.ListN.{length}
 use Rattle.rules.specs.declared.Layout.{Layout}
 use Rattle.rules.specs.declared.Point.{Point}
@@ -13,7 +12,7 @@ use Rattle.rules.specs.Answers.{Outcome, ask, andThen}
 use Rattle.rules.specs.Image.{gridOf}
 use Rattle.rules.specs.Questions.{opening}
 use Rattle.rules.specs.Limits.{Open}
-use Rattle.rules.specs.Lookup.{heightLookupOf}
+use Rattle.rules.specs.Lookup.{Height, heightLookupOf}
 use Rattle.rules.specs.Ways.{Source, sourceOf, convertOver, answerOf}
 use Rattle.opened.specs.declared.Fix.{Fix}
 
@@ -30,8 +29,8 @@ abbrev pub IsOut : List ℕ → Layout → Fix → Answer → Type 0
 IsOut b l f r = answerOf r ≡ convertOver way.Out (sourceOf (gridOf b l)) (f .point) (f .height)
 
 -- The quasi-geoid height at any point over any image: questions 1 to 6, then 8, then the lookup, which puts question 9, in edition 2 after
--- 15.
-unfoldable pub quasiGeoidHeight : List ℕ → Point → Outcome ℤ
+-- 15. Kind 2 puts neither 8 nor 15, and has no height off the height grid.
+unfoldable pub quasiGeoidHeight : List ℕ → Point → Outcome Height
 quasiGeoidHeight b q =
     andThen (opening b) (λ l.
     let s : Source = sourceOf (gridOf b l) in

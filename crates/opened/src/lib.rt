@@ -3,7 +3,6 @@
 // function over a record that holds a reference. So each of these is walked by hand (proofs/), and leaves the work to a function that the
 // kit covers, on the slice and the layout. An enum cannot hold a reference, so opening does not answer the record: the caller matches
 // `image::open` and makes the record of the layout found, as `way_out` does.
-use geometry::in_bounds;
 use image::layout_of;
 use image::open;
 use rules::Answer;
@@ -13,6 +12,7 @@ use rules::Opened;
 use rules::Point;
 use rules::Refusal;
 use rules::Way;
+use source::is_inside;
 use source::look_up_height;
 use ways::convert_over;
 ghost use mathlib.Core.Path.{_≡_};
@@ -21,7 +21,7 @@ ghost use Rattle.rules.specs.Image.{layoutFor};
 ghost use Rattle.rules.specs.Questions.{opening};
 ghost use Rattle.rules.specs.Lookup.{heightLookupOf};
 ghost use Rattle.rules.specs.Ways.{wayOut, answerOf};
-ghost use Rattle.rules.specs.Limits.{OpenAround};
+ghost use Rattle.rules.specs.Limits.{OpenFor};
 ghost use Rattle.opened.specs.Over.{Opens, IsLookup, IsOut, quasiGeoidHeight};
 
 // The lent bytes of an image, and the layout of its values.
@@ -43,9 +43,9 @@ pub fn opened_image<'a>(bytes: &'a [u8], layout: Layout) -> OpenedImage<'a>
     OpenedImage { bytes, layout }
 }
 
-// The lookup of the quasi-geoid height at a point in its bounds.
+// The lookup of the quasi-geoid height at a point in its bounds, if it has any.
 pub fn look_up_in<'a>(image: OpenedImage<'a>, p: Point) -> HeightLookup
-    requires { ⌜ OpenAround (now (image .bytes)) (image .layout) p ⌝ }
+    requires { ⌜ OpenFor (now (image .bytes)) (image .layout) p ⌝ }
     ensures { λ r. ⌜ IsLookup (now (image .entry .bytes)) (image .entry .layout) p r ⌝ }
 {
     look_up_height(image.bytes, image.layout, p)
@@ -76,7 +76,7 @@ fn out_through(bytes: &[u8], layout: Layout, f: Fix) -> Answer
 }
 
 fn look_up_through(bytes: &[u8], layout: Layout, p: Point) -> HeightLookup
-    requires { ⌜ OpenAround (now bytes) layout p ⌝ }
+    requires { ⌜ OpenFor (now bytes) layout p ⌝ }
     ensures { λ r. ⌜ IsLookup (now (bytes .entry)) layout p r ⌝ }
 {
     look_up_in(opened_image(bytes, layout), p)
@@ -108,7 +108,7 @@ fn height_over_image(bytes: &[u8], separate: bool, q: Point) -> HeightLookup
     ensures { λ r. ⌜ heightLookupOf r ≡ quasiGeoidHeight (now (bytes .entry)) q ⌝ }
 {
     let l = layout_of(bytes, separate);
-    if !in_bounds(l.latitude.geometry, q) {
+    if !is_inside(l, q) {
         return HeightLookup::Refused(Refusal::OutsideBounds);
     }
     look_up_through(bytes, l, q)

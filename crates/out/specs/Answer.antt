@@ -5,10 +5,10 @@ use lib.IntN.{ℤ, _-ℤ_}
 use Rattle.rules.specs.declared.Geometry.{Geometry}
 use Rattle.rules.specs.declared.Layout.{Layout}
 use Rattle.rules.specs.declared.Point.{Point}
-use Rattle.rules.specs.declared.Position.{Position}
 use Rattle.rules.specs.Units.{stopDistance, denseStopDistance}
 use Rattle.rules.specs.Answers.{Outcome, values, andThen}
-use Rattle.rules.specs.Ways.{Source, position}
+use Rattle.rules.specs.Lookup.{Height}
+use Rattle.rules.specs.Ways.{Accepted, answerAt}
 use Rattle.lookup.specs.declared.HeldCell.{HeldCell}
 use Rattle.lookup.specs.Held.{liesIn}
 
@@ -20,6 +20,6 @@ stopFor l = cond (l .nested) denseStopDistance stopDistance
 abbrev pub stillIn : HeldCell → (dense : Bool) → (bounds : Geometry) → (next : Bool) → Point → Bool
 stillIn h dense bounds next r = Bool·beq next dense && liesIn h bounds r
 
--- The answer at q: the height minus the quasi-geoid height there, and the count.
-abbrev pub answerAt : Source → (q : Point) (height : ℤ) (count : ℕ) → Outcome Position
-answerAt s q height count = andThen (s .height q) (λ z. values (position q (height -ℤ z) count))
+-- The answer at q by the quasi-geoid height that is looked up there: the height minus that, and the count.
+abbrev pub answerFrom : Outcome Height → (q : Point) (height : ℤ) (count : ℕ) → Outcome Accepted
+answerFrom lookup q height count = andThen lookup (λ found. values (answerAt q (λ z. height -ℤ z) count found))

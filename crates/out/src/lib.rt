@@ -18,7 +18,6 @@ use rules::STOP_DISTANCE;
 use source::height_at;
 use turns::Turn;
 use turns::evaluation;
-ghost use mathlib.Core.Bool.{true};
 ghost use mathlib.Core.Path.{_≡_};
 ghost use Prim.Native.Nat.{_≤_};
 ghost use lib.IntN.{natAbs, _-ℤ_};
@@ -30,14 +29,14 @@ ghost use Rattle.rules.specs.Ways as ways;
 ghost use Rattle.lookup.specs.Held.{Bounded, heldAt};
 ghost use Rattle.grids.specs.Grids.{takenDense};
 ghost use Rattle.source.specs.Asked.{HeldFor};
-ghost use Rattle.out.specs.Answer.{answerAt, stopFor, stillIn};
+ghost use Rattle.out.specs.Answer.{answerFrom, stopFor, stillIn};
 
 // The way out after questions 7 and 8, over an opened image: at most five evaluations, each from the point that the one before led to.
 // The last point's cell is held, and another is read only where the next point does not lie in it, or takes its corrections from the
 // other grid: on the dense border it lies on the side of a coarse cell too.
 pub fn out_from(image: &[u8], l: Layout, p: Point, height: i64) -> Answer
     requires { ⌜ OpenAround (now image) l p × (natAbs height ≤ outHeightLimit) ⌝ }
-    ensures { λ r. ⌜ ways.answerOf r ≡ ways.out (ways.sourceOf (gridOf (now (image .entry)) l)) p height ⌝ }
+    ensures { λ r. ⌜ ways.answerOf r ≡ ways.out (ways.boundedSource (gridOf (now (image .entry)) l)) p height ⌝ }
 {
     let bounds = l.latitude.geometry;
     let stop = stop_distance(l);
@@ -105,16 +104,18 @@ fn cell_for(image: &[u8], l: Layout, dense: bool, r: Point) -> HeldCell
 // may have q's height.
 fn answer_at(image: &[u8], l: Layout, h: HeldCell, q: Point, height: i64, count: u64) -> Answer
     requires { ⌜ OpenAround (now image) l q × HeldFor h (now image) l q × (natAbs height ≤ outHeightLimit) ⌝ }
-    ensures { λ r. ⌜ ways.answerOf r ≡ answerAt (ways.sourceOf (gridOf (now (image .entry)) l)) q height count ⌝ }
+    ensures { λ r. ⌜ ways.answerOf r
+        ≡ answerFrom (ways.boundedSource (gridOf (now (image .entry)) l) .height q) q height count ⌝ }
 {
     match height_at(image, l, h, q) {
         HeightLookup::Height(z) => Answer::Values(position_below(q, height, z, count)),
+        HeightLookup::NoHeight => Answer::WithoutHeight(position_below(q, 0, 0, count)),
         HeightLookup::Refused(r) => Answer::Refused(r),
     }
 }
 
 // The point q at the height less z, and the count.
-fn position_below(q: Point, height: i64, z: i64, count: u64) -> Position
+pub fn position_below(q: Point, height: i64, z: i64, count: u64) -> Position
     requires { ⌜ (natAbs height ≤ outHeightLimit) × (natAbs z ≤ quasiGeoidLimit) ⌝ }
     ensures { λ r. ⌜ r ≡ ways.position q (height -ℤ z) count ⌝ }
 {

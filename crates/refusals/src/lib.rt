@@ -30,5 +30,6 @@ pub fn refusal_number(r: Refusal) -> i64
         Refusal::Ntv2Shift => 19,
         Refusal::DenseAlignment => 20,
         Refusal::DenseBorder => 21,
+        Refusal::BorderCorrection => 22,
     }
 }

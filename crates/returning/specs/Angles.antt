@@ -9,7 +9,6 @@ use Rattle.rules.specs.declared.Point.{Point}
 use Rattle.rules.specs.declared.Correction.{Correction}
 use Rattle.rules.specs.Units.{correctionLimit, fixMargin, pointMargin, stopDistance, mostEvaluations}
 use Rattle.rules.specs.Answers.{values}
-use Rattle.rules.specs.Limits.{PointWithin}
 use Rattle.rules.specs.Ways.{Source, plus, Settled, iterate}
 use Rattle.rules.proofs.Evaluations.{counted}
 use Rattle.returning.specs.Points.{Close, close-self, close-mono, Room, room-itself, room-around}
@@ -45,12 +44,11 @@ stopAtOne =
       returns = omega arith;
     }
 
--- What the angles' half asks of a source: the rule's stop distance; corrections that are steady, within question 9's limit and with the
--- rule's change; and bounds within question 7's limits.
+-- What the angles' half asks of a source: the rule's stop distance, and corrections that are steady, within question 9's limit and with the
+-- rule's change.
 pub record SteadyAngles (s : Source) (at : Point → Correction) (rule : StopRule) : Type 0 where
   pub stop-is : s .stop ≡ rule .stop
   pub corrections : SteadyCorrections s at (rule .allowed) correctionLimit
-  pub point-within : (q : Point) → s .inside q ≡ true → PointWithin q
 
 -- The way out of p, up to its height, settles after at most `most` evaluations at a solution.
 pub record Settles (s : Source) (stop : ℕ) (p : Point) (most : ℕ) : Type 0 where

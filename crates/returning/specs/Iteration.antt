@@ -96,7 +96,7 @@ module _ {s : Source} {at : Point → Correction} {allowed : ℕ → ℕ} {M : �
   alike {D} {q} {r} i j h = record { latitude = S .latitude .change q r D i j h; longitude = S .longitude .change q r D i j h }
 
   -- A solution's correction is the one at the point that it comes from.
-  solved : {stop : ℕ} {p q : Point} (v : Solution s stop p q) → Sum q (at (v .from)) p
+  pub solved : {stop : ℕ} {p q : Point} (v : Solution s stop p q) → Sum q (at (v .from)) p
   solved v = let e : v .correction ≡ at (v .from) = cc (v .found, S .answered (v .from) (v .from-in-bounds)) in rw e at (v .sum)
 
   -- A solution lies within M of the given point, and a point goes back to within M of itself.

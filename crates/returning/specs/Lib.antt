@@ -1,5 +1,5 @@
 -- The return promise (demand 3): values between nodes, the way out over any corrections, the trips over any source; a dense grid inside the
--- coarse one, from GridLines to Crossing; grids that pass the check, and the promise.
+-- coarse one, from GridLines to Crossing; grids that pass the check; kind 2, from Edge to Anywhere; and the promise.
 pub mod Line
 pub mod Points
 pub mod Interpolation
@@ -14,4 +14,7 @@ pub mod Border
 pub mod Crossing
 pub mod Passing
 pub mod Nested
+pub mod Edge
+pub mod Unbounded
+pub mod Anywhere
 pub mod Return

@@ -1,5 +1,5 @@
--- Between a point in the bounds of a grid and one outside lies a point on their border: on each axis the angle of the axis that is nearest
--- to the outer point's.
+-- The border of a grid's bounds. Its sides are grid lines; and between a point in the bounds and one outside lies a point on the border: on
+-- each axis the angle of the axis that is nearest to the outer point's.
 use mathlib.Core.Bool.{Bool, true, false, false≢true}
 use mathlib.Core.Logic.{_⊎_, inl, inr, ⊎-elim}
 use mathlib.Core.Path.{_≡_, refl, sym, _∙_}
@@ -15,8 +15,10 @@ use Rattle.rules.specs.declared.Axis.{Axis}
 use Rattle.rules.specs.declared.Geometry.{Geometry}
 use Rattle.rules.specs.declared.Point.{Point}
 use Rattle.rules.specs.Image.{farBound}
+use Rattle.rules.specs.Limits.{Sized}
 use Rattle.rules.specs.Lookup.{onAxis, inside}
 use Rattle.rules.proofs.Cells.{from-start, to-far, on-axis, on-latitude, on-longitude}
+use Rattle.rules.proofs.Nesting.{AtNode, at-node, start-node}
 use Rattle.returning.specs.Points.{Close}
 
 -- A bound of an axis, and a point on the border of a grid's bounds.
@@ -26,6 +28,12 @@ pub data Bound (a : Axis) (z : ℤ) : Type 0 where
 
 abbrev pub OnBorder : Geometry → Point → Type 0
 OnBorder g p = Bound (g .latitude) (p .latitude) ⊎ Bound (g .longitude) (p .longitude)
+
+-- A bound is the angle of the first node or of the last one, so it has what these two have.
+pub bound-node : {a : Axis} → Sized a → (T : ℤ → ℕ → Type 0) → T (a .start) 0 → T (farBound a) (a .count - 1)
+    → (z : ℤ) → Bound a z → (node : ℕ) × AtNode a z node × T z node
+bound-node {a} o T first last z (at-start e) = rw e (0, rw (start-node a) at (at-node a 0 (omega (arith, o .count-least))), first)
+bound-node {a} o T first last z (at-far e) = rw e (a .count - 1, at-node a (a .count - 1) (omega (arith, o .count-least)), last)
 
 -- The angle of an axis that is nearest to z: it lies between z and every angle of the axis, and is a bound where z is not on the axis.
 record Nearest (a : Axis) (z : ℤ) : Type 0 where

@@ -4,6 +4,7 @@ use mathlib.Core.Bool.{Bool, true, false, cond}
 use mathlib.Core.List.{List}
 use mathlib.Core.Path.{_≡_, refl}
 use Prim.Native.Nat.{ℕ}
+use native.Mathlib.Omega.{arith}
 use lib.IntN.{ℤ}
 use Rattle.integers.specs.Booleans.{and-left, and-right}
 use Rattle.rules.specs.declared.Layout.{Layout}
@@ -15,9 +16,8 @@ use Rattle.rules.specs.Image.{Grid, gridOf}
 use Rattle.rules.specs.Limits.{GeometryPasses, Open}
 use Rattle.rules.specs.Bilinear.{valueAt}
 use Rattle.rules.specs.Lookup.{inside, correctionsPass, correctionGridLookup}
-use Rattle.rules.specs.Ways.{sourceOf}
+use Rattle.rules.specs.Ways.{boundedSource}
 use Rattle.rules.specs.Check.{borderAgrees, question21}
-use Rattle.rules.proofs.Cells.{point-within}
 use Rattle.rules.proofs.Nesting.{inside-coarse}
 use Rattle.returning.specs.Points.{SteadyValue}
 use Rattle.returning.specs.Angles.{SteadyAngles}
@@ -43,11 +43,11 @@ module _ {size : ℕ} (b : List ℕ) (l : Layout) (o : Open size l) (c : Passes 
   dense-geometry : GeometryPasses (grid .dense)
   dense-geometry = o .dense .geometry
 
-  nested-answered : (q : Point) → sourceOf grid .corrections q ≡ values (nestedCorrections grid q)
+  nested-answered : (q : Point) → boundedSource grid .corrections q ≡ values (nestedCorrections grid q)
   unfolding correctionGridLookup correctionsPass
   nested-answered q = by (inside (grid .dense) q) refl
     where
-      by : (t : Bool) → inside (grid .dense) q ≡ t → sourceOf grid .corrections q ≡ values (nestedCorrections grid q)
+      by : (t : Bool) → inside (grid .dense) q ≡ t → boundedSource grid .corrections q ≡ values (nestedCorrections grid q)
       by true e = rw (o .nests nested .separate, nested, e) (grid-answered dense-geometry (c .dense nested) q)
       by false e = rw (o .nests nested .separate, nested, e) (grid-answered geometry (c .corrections) q)
 
@@ -57,9 +57,9 @@ module _ {size : ℕ} (b : List ℕ) (l : Layout) (o : Open size l) (c : Passes 
   steady-nested e f m n t =
       let aligned = o .nests nested .aligned in
       steady-across (grid .dense) (steady-value geometry e m) (steady-value dense-geometry f n)
-      (inside-coarse _ _ aligned) (border-near geometry dense-geometry aligned e f t)
+      (inside-coarse _ _ aligned) (border-near geometry dense-geometry aligned e f t) (λ d. omega arith)
 
-  pub nested-angles : SteadyAngles (sourceOf grid) (nestedCorrections grid) stopAtThree
+  pub nested-angles : SteadyAngles (boundedSource grid) (nestedCorrections grid) stopAtThree
   unfolding question21
   nested-angles =
       let t = c .border nested in
@@ -73,5 +73,4 @@ module _ {size : ℕ} (b : List ℕ) (l : Layout) (o : Open size l) (c : Passes 
           longitude = steady-nested (grid .longitude) (grid .denseLongitude) (c .corrections .longitude) (c .dense nested .longitude)
               (and-right first _ t);
         };
-        point-within = λ q i. point-within (grid .corrections) q geometry i;
       }

@@ -1,5 +1,6 @@
 -- A grid that passes the check is a steady source: its nodes are all within question 9's limits, so every lookup in the bounds is answered,
--- and its steps are within question 12's, so every value changes slowly. The corrections with a dense grid are in Nested.antt.
+-- and its steps are within question 12's, so every value changes slowly. The corrections with a dense grid are in Nested.antt, the answers
+-- at any point in Unbounded.antt.
 use mathlib.Core.Bool.{Bool, true, false}
 use mathlib.Core.List.{List}
 use mathlib.Core.Path.{_≡_, refl, subst}
@@ -22,14 +23,14 @@ use Rattle.rules.specs.Answers.{values}
 use Rattle.rules.specs.Image.{Grid, gridOf, rows, columns, farBound}
 use Rattle.rules.specs.Limits.{GeometryPasses, Open}
 use Rattle.rules.specs.Bilinear.{cornersFor, valueAt}
-use Rattle.rules.specs.Lookup.{onAxis, inside, squarePasses, question9, correctionsPass, heightsPass, correctionsAt, quasiGeoidAt}
+use Rattle.rules.specs.Lookup.{some, onAxis, inside, squarePasses, question9, correctionsPass, heightsPass, correctionsAt, quasiGeoidAt}
 use Rattle.rules.specs.Lookup.{correctionLookup, heightLookup, correctionGridLookup, heightGridLookup, denseGrid}
-use Rattle.rules.specs.Ways.{sourceOf}
+use Rattle.rules.specs.Ways.{boundedSource}
 use Rattle.rules.specs.Check.{largest, allWithin, allPass, stepNorth, stepEast, stepsOf, slopePasses, question12, findingsOf}
-use Rattle.rules.specs.Check.{densePasses, denseSlopesPass, question21, whereNested, check}
+use Rattle.rules.specs.Check.{densePasses, denseSlopesPass, question21, question22, whereNested, whereUnbounded, check}
 use Rattle.rules.specs.Promise.{Margin}
 use Rattle.rules.proofs.Answers.{asked}
-use Rattle.rules.proofs.Cells.{on-axis, point-within}
+use Rattle.rules.proofs.Cells.{on-axis}
 use Rattle.rules.proofs.Corners.{cell-within, square-passes}
 use Rattle.rules.proofs.Largest.{largest-at}
 use Rattle.rules.proofs.Slopes.{NodesWithin, all-within}
@@ -77,22 +78,25 @@ pub record BothPass (g : Grid) : Type 0 where
   pub latitude : NodesPass (g .corrections) correctionLimit (g .latitude)
   pub longitude : NodesPass (g .corrections) correctionLimit (g .longitude)
 
--- What the check establishes of a grid: of its corrections and heights, and where a dense grid is nested, of that and of its border.
+-- What the check establishes of a grid: of its corrections and heights; where a dense grid is nested, of that and of its border; and of an
+-- unbounded one's border.
 pub record Passes (g : Grid) : Type 0 where
   pub corrections : BothPass g
   pub height : NodesPass (g .heights) quasiGeoidLimit (g .height)
   pub dense : g .nested ≡ true → BothPass (denseGrid g)
   pub border : g .nested ≡ true → question21 g ≡ true
+  pub zero-border : g .unbounded ≡ true → question22 g ≡ true
 
 pub passes : (g : Grid) (f : Findings) → check g ≡ values f → Passes g
-unfolding check allPass question12 findingsOf densePasses denseSlopesPass question21
+unfolding check allPass question12 findingsOf densePasses denseSlopesPass question21 question22
 passes g f h =
     let c = g .corrections in
     let e = g .heights in
     let d = g .dense in
     let nodes = asked (allPass g) 9 _ f h in
     let dense-nodes = asked (whereNested g (densePasses g)) 9 _ f (nodes .1) in
-    let slopes = asked (question12 g (findingsOf g)) 12 _ f (dense-nodes .1) in
+    let zero-border = asked (whereUnbounded g (question22 g)) 22 _ f (dense-nodes .1) in
+    let slopes = asked (question12 g (findingsOf g)) 12 _ f (zero-border .1) in
     let dense-slopes = asked (whereNested g (denseSlopesPass g)) 12 _ f (slopes .1) in
     let border = asked (whereNested g (question21 g)) 21 _ f (dense-slopes .1) in
     let n =
@@ -117,6 +121,7 @@ passes g f h =
             longitude = value-passes d _ (g .denseLongitude) (and-right first _ m) (and-right slope _ t);
           };
       border = λ k. rw k at (border .0);
+      zero-border = λ k. rw k at (zero-border .0);
     }
 
 -- Question 9 has the answer yes in every cell of a grid's corrections, so their lookup is answered.
@@ -140,7 +145,7 @@ module _ {size : ℕ} (b : List ℕ) (l : Layout) (o : Open size l) (c : Passes 
   geometry = o .latitude .geometry
 
   -- Question 9 of heights that stand at the corrections' nodes or on a separate grid.
-  heights-pass : (q : Point) → squarePasses quasiGeoidLimit (cornersFor (grid .heights) (grid .height) q) ≡ true
+  pub heights-pass : (q : Point) → squarePasses quasiGeoidLimit (cornersFor (grid .heights) (grid .height) q) ≡ true
   heights-pass q = square-passes _ _ (cell-within (grid .height) (o .height .geometry) (c .height .limit) q)
 
   -- In edition 1 both geometries are one, so the corrections' cell of a point is its heights' cell.
@@ -151,27 +156,30 @@ module _ {size : ℕ} (b : List ℕ) (l : Layout) (o : Open size l) (c : Passes 
       and-both (latitudes-pass geometry (c .corrections) q)
       (and-both (longitudes-pass geometry (c .corrections) q) (subst at (o .height-geometry nodes) (heights-pass q)))
 
-  height-answered : (q : Point) → inside (grid .heights) q ≡ true → sourceOf grid .height q ≡ values (quasiGeoidAt grid q)
+  height-answered : (q : Point) → inside (grid .heights) q ≡ true → boundedSource grid .height q ≡ values (some (quasiGeoidAt grid q))
   unfolding heightLookup heightGridLookup heightsPass
   height-answered q i = by (l .separate) refl
     where
-      by : (separate : Bool) → l .separate ≡ separate → sourceOf grid .height q ≡ values (quasiGeoidAt grid q)
+      by : (separate : Bool) → l .separate ≡ separate → boundedSource grid .height q ≡ values (some (quasiGeoidAt grid q))
       by false nodes = rw (nodes-pass nodes q, nodes)
       by true apart = rw (i, heights-pass q, apart)
 
-  pub heights : SteadyHeights (sourceOf grid) (inside (grid .heights)) (quasiGeoidAt grid)
-  heights = record { answered = height-answered; value = steady-value (o .height .geometry) (grid .height) (c .height) }
+  pub height-value : SteadyValue (inside (grid .heights)) hundredth quasiGeoidLimit (quasiGeoidAt grid)
+  height-value = steady-value (o .height .geometry) (grid .height) (c .height)
+
+  pub heights : SteadyHeights (boundedSource grid) (inside (grid .heights)) (quasiGeoidAt grid)
+  heights = record { answered = height-answered; value = height-value }
 
   -- Without a dense grid: the lookup of each edition.
-  corrections-answered : l .nested ≡ false → (q : Point) → sourceOf grid .corrections q ≡ values (correctionsAt grid q)
+  corrections-answered : l .nested ≡ false → (q : Point) → boundedSource grid .corrections q ≡ values (correctionsAt grid q)
   unfolding correctionLookup correctionGridLookup correctionsPass
   corrections-answered none q = by (l .separate) refl
     where
-      by : (separate : Bool) → l .separate ≡ separate → sourceOf grid .corrections q ≡ values (correctionsAt grid q)
+      by : (separate : Bool) → l .separate ≡ separate → boundedSource grid .corrections q ≡ values (correctionsAt grid q)
       by false nodes = rw (nodes-pass nodes q, nodes)
       by true apart = rw (apart, none) (grid-answered geometry (c .corrections) q)
 
-  pub angles : l .nested ≡ false → SteadyAngles (sourceOf grid) (correctionsAt grid) stopAtOne
+  pub angles : l .nested ≡ false → SteadyAngles (boundedSource grid) (correctionsAt grid) stopAtOne
   angles none =
       record {
         stop-is = rw none;
@@ -180,7 +188,6 @@ module _ {size : ℕ} (b : List ℕ) (l : Layout) (o : Open size l) (c : Passes 
           latitude = steady-value geometry (grid .latitude) (c .corrections .latitude);
           longitude = steady-value geometry (grid .longitude) (c .corrections .longitude);
         };
-        point-within = λ q i. point-within (grid .corrections) q geometry i;
       }
 
 -- ---- every point within d of one that is at least d inside is in the bounds

@@ -9,6 +9,7 @@ use opened::quasi_geoid_height;
 use opened::way_out;
 use rules::Answer;
 use rules::HeightLookup;
+use rules::NO_HEIGHT;
 use rules::Point;
 use rules::Position;
 use rules::TripAnswer;
@@ -77,13 +78,22 @@ fn report(image: &[u8], p: Point, height: i64) {
     report_trip(image, p, height);
 }
 
-// `out` with the point, the height and the count, and the line of the quasi-geoid height; or `out refused` and the number.
+// `out` with the point, the height, the count and without a height 100, and the line of the quasi-geoid height; or `out refused` and the
+// number.
 fn report_out(image: &[u8], p: Point, height: i64) {
     match way_out(image, p, height) {
         Answer::Values(a) => {
             io::write_all(1, b"out");
             print_position(a);
             print_field(a.count);
+            io::write_all(1, b"\n");
+            report_quasi_geoid(image, a);
+        }
+        Answer::WithoutHeight(a) => {
+            io::write_all(1, b"out");
+            print_position(a);
+            print_field(a.count);
+            print_field(NO_HEIGHT);
             io::write_all(1, b"\n");
             report_quasi_geoid(image, a);
         }
@@ -94,7 +104,7 @@ fn report_out(image: &[u8], p: Point, height: i64) {
     }
 }
 
-// `quasi-geoid` and its height at the position that the way out answered, where it is never refused.
+// `quasi-geoid` and its height, or `none`, at the position that the way out answered, where it is never refused.
 fn report_quasi_geoid(image: &[u8], a: Position) {
     let q = Point {
         latitude: a.latitude,
@@ -106,6 +116,9 @@ fn report_quasi_geoid(image: &[u8], a: Position) {
             print_signed(z);
             io::write_all(1, b"\n");
         }
+        HeightLookup::NoHeight => {
+            io::write_all(1, b"quasi-geoid none\n");
+        }
         HeightLookup::Refused(r) => {
             io::write_all(1, b"quasi-geoid ");
             print_refusal(r);
@@ -113,17 +126,24 @@ fn report_quasi_geoid(image: &[u8], a: Position) {
     }
 }
 
-// `back` and what returned, and `distance` and how far that is from the fix; or `trip refused` and the number.
+// `back` and what returned, and `distance` and how far that is from the fix, in height too where both answers have one; or `trip refused`
+// and the number.
 fn report_trip(image: &[u8], p: Point, height: i64) {
     match round_trip(image, p, height) {
         TripAnswer::Returned(t) => {
             let returned = t.returned;
             io::write_all(1, b"back");
             print_position(returned);
-            io::write_all(1, b"\ndistance");
-            print_field(distance(returned.latitude, p.latitude));
-            print_field(distance(returned.longitude, p.longitude));
+            print_distances(returned, p);
             print_field(distance(returned.height, height));
+            io::write_all(1, b"\n");
+        }
+        TripAnswer::WithoutHeights(t) => {
+            let returned = t.returned;
+            io::write_all(1, b"back");
+            print_position(returned);
+            print_field(NO_HEIGHT);
+            print_distances(returned, p);
             io::write_all(1, b"\n");
         }
         TripAnswer::Refused(r) => {
@@ -131,6 +151,13 @@ fn report_trip(image: &[u8], p: Point, height: i64) {
             print_refusal(r);
         }
     }
+}
+
+// The line `distance`, with how far each angle is from the fix's.
+fn print_distances(returned: Position, p: Point) {
+    io::write_all(1, b"\ndistance");
+    print_field(distance(returned.latitude, p.latitude));
+    print_field(distance(returned.longitude, p.longitude));
 }
 
 // A position's latitude, longitude and height.

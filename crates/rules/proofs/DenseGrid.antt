@@ -15,7 +15,7 @@ use Rattle.rules.specs.Questions.{judge, judgeTwo, judgeNested, openingN
 use Rattle.rules.specs.Bilinear.{cellOf, partOf, weighted, bilinear, valueAt, exactSum}
 use Rattle.rules.specs.Lookup.{onAxis, inside, squarePasses, correctionsPass, heightsPass, correctionGridLookup, heightGridLookup}
 use Rattle.rules.specs.Dense.{onLine, axisAligned, question20}
-use Rattle.rules.specs.Ways.{question7, plus, minus, position, back, settled, iterate, out, convertOver, convert, wayBack, wayOut}
+use Rattle.rules.specs.Ways.{question7, plus, minus, measured, back, settled, iterate, out, convertOver, convert, wayBack, wayOut}
 use Rattle.rules.specs.Check.{every, largest, allWithin, allPass, stepNorth, stepEast, stepsOf, slopePasses, question12, findingsOf}
 use Rattle.rules.specs.Check.{densePasses, denseSlopesPass, agrees, rowsAgree, columnsAgree, borderAgrees, question21}
 use Rattle.rules.specs.Check.{check, gridCheck}
@@ -79,26 +79,26 @@ pub record DenseGrid : Type 0 where
   pub dense-limits : gridCheck (changed 3 1 3 1) ≡ number 9
   pub dense-slope : gridCheck (nested (rowsOf 306 307 310) 1000 500) ≡ number 12
   -- back: the dense node inside, on the dense bounds the dense values, 1 nd outside the parent's
-  pub inside-it : wayBack corner (at (pos 1500) (pos 1500)) (pos 0) ≡ values (position (at (pos 1809) (pos 1450)) (pos 430000) 1)
-  pub on-south-bound : wayBack corner (at (pos 1000) (pos 1500)) (pos 0) ≡ values (position (at (pos 1306) (pos 1450)) (pos 430000) 1)
-  pub south-of-it : wayBack corner (at (pos 999) (pos 1500)) (pos 0) ≡ values (position (at (pos 1304) (pos 1450)) (pos 430000) 1)
-  pub on-west-bound : wayBack corner (at (pos 1500) (pos 1000)) (pos 0) ≡ values (position (at (pos 1807) (pos 950)) (pos 430000) 1)
-  pub west-of-it : wayBack corner (at (pos 1500) (pos 999)) (pos 0) ≡ values (position (at (pos 1808) (pos 949)) (pos 430000) 1)
-  pub far-bounds : wayBack corner (at (pos 2000) (pos 2000)) (pos 0) ≡ values (position (at (pos 2310) (pos 1950)) (pos 430000) 1)
+  pub inside-it : wayBack corner (at (pos 1500) (pos 1500)) (pos 0) ≡ values (measured (at (pos 1809) (pos 1450)) (pos 430000) 1)
+  pub on-south-bound : wayBack corner (at (pos 1000) (pos 1500)) (pos 0) ≡ values (measured (at (pos 1306) (pos 1450)) (pos 430000) 1)
+  pub south-of-it : wayBack corner (at (pos 999) (pos 1500)) (pos 0) ≡ values (measured (at (pos 1304) (pos 1450)) (pos 430000) 1)
+  pub on-west-bound : wayBack corner (at (pos 1500) (pos 1000)) (pos 0) ≡ values (measured (at (pos 1807) (pos 950)) (pos 430000) 1)
+  pub west-of-it : wayBack corner (at (pos 1500) (pos 999)) (pos 0) ≡ values (measured (at (pos 1808) (pos 949)) (pos 430000) 1)
+  pub far-bounds : wayBack corner (at (pos 2000) (pos 2000)) (pos 0) ≡ values (measured (at (pos 2310) (pos 1950)) (pos 430000) 1)
   -- out: from 1500 in the dense grid; across its border, where (1304, 1450) goes by (998, 1500), outside
-  pub out-of-it : wayOut corner (at (pos 1809) (pos 1450)) (pos 0) ≡ values (position (at (pos 1500) (pos 1500)) (negℤ (pos 430000)) 2)
-  pub across : wayOut corner (at (pos 1304) (pos 1450)) (pos 0) ≡ values (position (at (pos 999) (pos 1500)) (negℤ (pos 430000)) 2)
-  pub onto-the-bound : wayOut corner (at (pos 1305) (pos 1450)) (pos 0) ≡ values (position (at (pos 1000) (pos 1500)) (negℤ (pos 430000)) 2)
+  pub out-of-it : wayOut corner (at (pos 1809) (pos 1450)) (pos 0) ≡ values (measured (at (pos 1500) (pos 1500)) (negℤ (pos 430000)) 2)
+  pub across : wayOut corner (at (pos 1304) (pos 1450)) (pos 0) ≡ values (measured (at (pos 999) (pos 1500)) (negℤ (pos 430000)) 2)
+  pub onto-the-bound : wayOut corner (at (pos 1305) (pos 1450)) (pos 0) ≡ values (measured (at (pos 1000) (pos 1500)) (negℤ (pos 430000)) 2)
   -- the second point is 2 nd from the first: the stop rule takes it with a dense grid, without one it takes the third
-  pub three-with : wayOut corner (at (pos 900) (pos 1450)) (pos 0) ≡ values (position (at (pos 597) (pos 1500)) (negℤ (pos 430000)) 2)
-  pub one-without : wayOut (coarse 0) (at (pos 900) (pos 1450)) (pos 0) ≡ values (position (at (pos 597) (pos 1500)) (negℤ (pos 430000)) 3)
+  pub three-with : wayOut corner (at (pos 900) (pos 1450)) (pos 0) ≡ values (measured (at (pos 597) (pos 1500)) (negℤ (pos 430000)) 2)
+  pub one-without : wayOut (coarse 0) (at (pos 900) (pos 1450)) (pos 0) ≡ values (measured (at (pos 597) (pos 1500)) (negℤ (pos 430000)) 3)
 
 -- Bytes of `corner`: the dense geometry from 72 on (south, west, spacings at 88 and 92, rows at 96, columns at 100) with its back at 104,
 -- the trailer from 196 on with the correction back at 260, the kind at 268.
 pub record DenseGridOrder : Type 0 where
   -- a correction back that leaves less than 36 bytes before the correction nodes is a 1, before 3
   pub room-before-counts : opening (changed 260 241 96 1) ≡ number 1
-  pub kind-known : opening (changed 268 2 96 1) ≡ number 2
+  pub kind-known : opening (changed 268 3 96 1) ≡ number 2
   -- each of 3 to 6 of the dense grid comes before the next one of any grid
   pub dense-rows : opening (changed 96 1 215 255) ≡ number 3
   pub dense-columns : opening (changed 100 1 215 255) ≡ number 3

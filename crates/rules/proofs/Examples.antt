@@ -14,7 +14,7 @@ use Rattle.rules.specs.Image.{u64At, i32At, i64At, trailerOf, editionOf,
 use Rattle.rules.specs.Questions.{question3, question4, boundsWithin, question5, backPasses, question6, judge, opening}
 use Rattle.rules.specs.Bilinear.{cellOf, partOf, weighted, bilinear, valueAt}
 use Rattle.rules.specs.Lookup.{onAxis, inside, squarePasses, question9, correctionLookup, heightLookup}
-use Rattle.rules.specs.Ways.{question7, plus, minus, position, back, settled, iterate, out, convertOver, convert, wayBack, wayOut}
+use Rattle.rules.specs.Ways.{question7, plus, minus, measured, back, settled, iterate, out, convertOver, convert, wayBack, wayOut}
 use Rattle.rules.specs.Check.{every, largest, allWithin, allPass, stepNorth, stepEast, stepsOf}
 use Rattle.rules.specs.Check.{slopePasses, question12, findingsOf, check, gridCheck}
 use Rattle.rules.specs.Lists.{question14, convertList, listOut, listBack}
@@ -95,18 +95,18 @@ tenNumbers = pos 9 ∷ pos 9 ∷ pos 9 ∷ pos 9 ∷ pos 9 ∷ pos 9 ∷ pos 9 �
 -- Each shuts out the slip that its comment names.
 pub record Examples : Type 0 where
   -- question 7's limits: a height of 100,000,000 passes going out and 100,000,001 does not, 110,000,000 passes going back
-  pub out-height-most : wayOut gridG (at (pos 602) (pos 450)) (pos 100000000) ≡ values (position (at (pos 500) (pos 500)) (pos 99569997) 2)
+  pub out-height-most : wayOut gridG (at (pos 602) (pos 450)) (pos 100000000) ≡ values (measured (at (pos 500) (pos 500)) (pos 99569997) 2)
   pub out-height-beyond : wayOut gridG (at (pos 602) (pos 450)) (pos 100000001) ≡ number 7
   pub back-height-most : wayBack gridG (at (pos 500) (pos 500)) (pos 110000000)
-      ≡ values (position (at (pos 602) (pos 450)) (pos 110430003) 1)
+      ≡ values (measured (at (pos 602) (pos 450)) (pos 110430003) 1)
   -- fewer than five evaluations: p0 to p5 lie at 1100, 735, 790, 781, 783, 783
   pub five-evaluations : wayOut (rising 200 150) (at (pos 1100) (pos 500)) (pos 0)
-      ≡ values (position (at (pos 783) (pos 500)) (negℤ (pos 430003)) 5)
+      ≡ values (measured (at (pos 783) (pos 500)) (negℤ (pos 430003)) 5)
   -- a sixth evaluation: p5 lies 2 nd from p4, and p6 would lie 1 nd from p5
   pub no-sixth-evaluation : wayOut (rising 400 200) (at (pos 1200) (pos 500)) (pos 0) ≡ number 11
   -- a stop distance of 2: p0 to p3 lie at 1000, 950, 952, 952
   pub stop-distance : wayOut (rising 0 50) (at (pos 1000) (pos 500)) (pos 0)
-      ≡ values (position (at (pos 952) (pos 500)) (negℤ (pos 430003)) 3)
+      ≡ values (measured (at (pos 952) (pos 500)) (negℤ (pos 430003)) 3)
   -- P and Q swapped in question 12: 100 × 10 × 500 is P × Q, 100 × 10 × 1,000 is more
   pub slope-by-its-spacing : gridCheck (halfAsWide (rising 100 10))
       ≡ values (record { latitude = steps 10 0; longitude = steps 0 0; height = steps 0 5 })

@@ -1,12 +1,11 @@
 -- Figures of our own for edition 2, computed from bytes: heights on a grid with another spacing, a height grid that leaves out part of the
 -- correction grid, and the order of the questions, where of two with the answer no the first one's number is given.
-use mathlib.Core.List.{List, [], _∷_, _++_}
+use mathlib.Core.List.{List, [], _++_}
 use mathlib.Core.Path.{_≡_, refl}
 use Prim.Native.Nat.{ℕ, zero, suc, _+_, _*_, _/_, _%_}
 use lib.IntN.{ℤ, pos, negℤ}
 use lib.ListN.{drop, set}
 use Rattle.integers.specs.Rounding.{roundHalfUp}
-use Rattle.rules.specs.declared.Steps.{Steps}
 use Rattle.rules.specs.declared.Findings.{Findings}
 use Rattle.rules.specs.declared.Layout.{Layout}
 use Rattle.rules.specs.Answers.{Outcome, values, number}
@@ -15,7 +14,7 @@ use Rattle.rules.specs.Questions.{question3, question4, boundsWithin, qu
 use Rattle.rules.specs.Questions.{judge, judgeTwo, openingTwo, opening}
 use Rattle.rules.specs.Bilinear.{cellOf, partOf, weighted, bilinear, valueAt}
 use Rattle.rules.specs.Lookup.{onAxis, inside, squarePasses, correctionsPass, heightsPass, correctionGridLookup, heightGridLookup}
-use Rattle.rules.specs.Ways.{question7, plus, minus, position, back, settled, iterate, out, convertOver, convert, wayBack, wayOut}
+use Rattle.rules.specs.Ways.{question7, plus, minus, measured, back, settled, iterate, out, convertOver, convert, wayBack, wayOut}
 use Rattle.rules.specs.Check.{every, largest, allWithin, allPass, stepNorth, stepEast, stepsOf}
 use Rattle.rules.specs.Check.{slopePasses, question12, findingsOf, check, gridCheck}
 use Rattle.rules.specs.Figures.{word, i32Bytes, at}
@@ -91,34 +90,34 @@ findings a b c d e f =
 
 pub record HeightGrid : Type 0 where
   -- heights every 500 nd: at (500, 500) a height node, at (750, 600) 1.5 rows and 1.2 columns into the height grid
-  pub back-node : wayBack halfSpacing (at (pos 500) (pos 500)) (pos 10000) ≡ values (position (at (pos 602) (pos 450)) (pos 440005) 1)
-  pub back-between : wayBack halfSpacing (at (pos 750) (pos 600)) (pos 0) ≡ values (position (at (pos 853) (pos 550)) (pos 430007) 1)
-  pub out-node : wayOut halfSpacing (at (pos 602) (pos 450)) (pos 440005) ≡ values (position (at (pos 500) (pos 500)) (pos 10000) 2)
-  pub out-between : wayOut halfSpacing (at (pos 853) (pos 550)) (pos 430007) ≡ values (position (at (pos 750) (pos 600)) (pos 0) 2)
+  pub back-node : wayBack halfSpacing (at (pos 500) (pos 500)) (pos 10000) ≡ values (measured (at (pos 602) (pos 450)) (pos 440005) 1)
+  pub back-between : wayBack halfSpacing (at (pos 750) (pos 600)) (pos 0) ≡ values (measured (at (pos 853) (pos 550)) (pos 430007) 1)
+  pub out-node : wayOut halfSpacing (at (pos 602) (pos 450)) (pos 440005) ≡ values (measured (at (pos 500) (pos 500)) (pos 10000) 2)
+  pub out-between : wayOut halfSpacing (at (pos 853) (pos 550)) (pos 430007) ≡ values (measured (at (pos 750) (pos 600)) (pos 0) 2)
   -- the far corner of both grids
-  pub back-corner : wayBack halfSpacing (at (pos 2000) (pos 2000)) (pos 0) ≡ values (position (at (pos 2108) (pos 1950)) (pos 430020) 1)
+  pub back-corner : wayBack halfSpacing (at (pos 2000) (pos 2000)) (pos 0) ≡ values (measured (at (pos 2108) (pos 1950)) (pos 430020) 1)
   pub back-outside : wayBack halfSpacing (at (pos 2001) (pos 2000)) (pos 0) ≡ number 8
   -- 100 × (2 + 3) × 500 is 500 × 500; with steps of 3 it is more, though not more than 1000 × 1000
   pub check-passes : gridCheck halfSpacing ≡ values (findings 4 0 0 0 2 3)
   pub check-by-own-spacing : gridCheck steeper ≡ number 12
   -- a height grid that leaves out part of the correction grid: its bounds are on it
-  pub back-on-bound : wayBack middle (at (pos 500) (pos 500)) (pos 0) ≡ values (position (at (pos 602) (pos 450)) (pos 430000) 1)
-  pub back-on-far-bound : wayBack middle (at (pos 1500) (pos 1500)) (pos 0) ≡ values (position (at (pos 1606) (pos 1450)) (pos 430010) 1)
+  pub back-on-bound : wayBack middle (at (pos 500) (pos 500)) (pos 0) ≡ values (measured (at (pos 602) (pos 450)) (pos 430000) 1)
+  pub back-on-far-bound : wayBack middle (at (pos 1500) (pos 1500)) (pos 0) ≡ values (measured (at (pos 1606) (pos 1450)) (pos 430010) 1)
   pub back-off : wayBack middle (at (pos 400) (pos 500)) (pos 0) ≡ number 15
   pub back-off-east : wayBack middle (at (pos 500) (pos 1501)) (pos 0) ≡ number 15
   -- the fix lies on the height grid, its Bessel point (400, 550) does not; and the other way round
   pub out-off : wayOut middle (at (pos 502) (pos 500)) (pos 0) ≡ number 15
-  pub out-on : wayOut middle (at (pos 602) (pos 450)) (pos 430000) ≡ values (position (at (pos 500) (pos 500)) (pos 0) 2)
+  pub out-on : wayOut middle (at (pos 602) (pos 450)) (pos 430000) ≡ values (measured (at (pos 500) (pos 500)) (pos 0) 2)
   -- heights are asked of the Bessel point's height cell alone: the fix (602, 450) lies in another, with a height beyond its limit
   pub heights-of-the-last : wayOut (badHeight halfSpacing) (at (pos 602) (pos 450)) (pos 440005)
-      ≡ values (position (at (pos 500) (pos 500)) (pos 10000) 2)
+      ≡ values (measured (at (pos 500) (pos 500)) (pos 10000) 2)
   pub heights-asked : wayBack (badHeight halfSpacing) (at (pos 500) (pos 499)) (pos 0) ≡ number 9
 
 -- The order of the questions.
 pub record HeightGridOrder : Type 0 where
   -- 79 bytes of another kind, which stands at byte 244; that kind, and one correction row (196); an edition (248) that is not known
   pub length-before-kind : opening (drop 173 (set halfSpacing 244 1)) ≡ number 1
-  pub kind-before-counts : changed 244 2 196 1 ≡ number 2
+  pub kind-before-counts : changed 244 3 196 1 ≡ number 2
   pub edition-known : changed 248 3 248 3 ≡ number 2
   -- each question is put to both grids before the next one is: rows at 196 and 228, two bytes of the latitude
   -- spacing at 188 and 220, the highest byte of the southern bound at 179 and 211, the backs at 236 and 240

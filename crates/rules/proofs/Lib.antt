@@ -2,8 +2,10 @@
 pub mod Examples
 pub mod HeightGrid
 pub mod DenseGrid
+pub mod PastTheEdge
 pub mod VdatumFile
 pub mod Ntv2File
+pub mod Accepted
 pub mod Answers
 pub mod Opening
 pub mod Cells

@@ -2,12 +2,11 @@
 -- values that are not read, and damaged bytes.
 use mathlib.Core.List.{List, [], _∷_, _++_}
 use mathlib.Core.Path.{_≡_, refl}
-use Prim.Native.Nat.{ℕ, zero, suc, _+_, _*_, _/_, _%_}
+use Prim.Native.Nat.{ℕ, zero, suc, _+_, _/_, _%_}
 use lib.IntN.{ℤ, pos, negℤ}
 use lib.ListN.{length, take, drop, getD}
 use Rattle.integers.specs.Rounding.{roundHalfUp}
 use Rattle.rules.specs.declared.Geometry.{Geometry}
-use Rattle.rules.specs.declared.Plane.{Plane}
 use Rattle.rules.specs.Answers.{values, number}
 use Rattle.rules.specs.Image.{u64At, i32At, plane}
 use Rattle.rules.specs.Questions.{question3, question4, boundsWithin, question5, questions3To5}

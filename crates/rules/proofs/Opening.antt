@@ -1,5 +1,5 @@
 -- What questions 1 to 6, and 20, establish in both editions: each question before the layout was answered yes.
-use mathlib.Core.Bool.{true, false, false≢true}
+use mathlib.Core.Bool.{Bool, true, false, false≢true}
 use mathlib.Core.List.{List}
 use mathlib.Core.Path.{_≡_, refl, sym, ap, subst, _∙_}
 use Prim.Native.Nat.{ℕ, _+_, _-_, _*_, _≤_}
@@ -14,11 +14,11 @@ use Rattle.rules.specs.declared.Geometry.{Geometry}
 use Rattle.rules.specs.declared.Trailer.{Trailer}
 use Rattle.rules.specs.declared.GridTrailer.{GridTrailer}
 use Rattle.rules.specs.declared.TwoGridTrailer.{TwoGridTrailer}
-use Rattle.rules.specs.declared.Plane.{Plane}
 use Rattle.rules.specs.declared.Layout.{Layout}
 use Rattle.rules.specs.Units.{latitudeLimit, countMost, spacingMost, between, within}
 use Rattle.rules.specs.Answers.{values}
-use Rattle.rules.specs.Image.{trailerOf, editionOf, twoGridTrailerOf, isNested, denseTrailerOf, farBound, rows, columns}
+use Rattle.rules.specs.Image.{trailerOf, editionOf, twoGridTrailerOf, isNested, isUnbounded, denseTrailerOf}
+use Rattle.rules.specs.Image.{farBound, rows, columns}
 use Rattle.rules.specs.Image.{backOf, heightBackOf, correctionBackOf, denseBackOf, layoutOf, twoGridLayoutOf, nestedLayoutOf}
 use Rattle.rules.specs.Dense.{question20}
 use Rattle.rules.proofs.Answers.{asked}
@@ -113,11 +113,13 @@ laid size g passes h =
       longitude-geometry = refl;
       height-geometry = λ one. refl;
       nests = λ k. absurd (false≢true k);
+      apart = λ k. absurd (false≢true k);
+      not-nested = λ k. refl;
     }
 
-laid-two : (size : ℕ) (c h : Geometry) → GeometryPasses c → GeometryPasses h → correctionBackOf c h ≤ size
-    → Open size (twoGridLayoutOf size c h)
-laid-two size c h c-passes h-passes l =
+laid-two : (unbounded : Bool) (size : ℕ) (c h : Geometry) → GeometryPasses c → GeometryPasses h → correctionBackOf c h ≤ size
+    → Open size (twoGridLayoutOf unbounded size c h)
+laid-two unbounded size c h c-passes h-passes l =
     let first = size - correctionBackOf c h in
     let nodes : first + 8 * (rows c * columns c) ≤ size = omega arith in
     let heights : size - heightBackOf h + 4 * (rows h * columns h) ≤ size = omega arith in
@@ -130,12 +132,14 @@ laid-two size c h c-passes h-passes l =
       longitude-geometry = refl;
       height-geometry = λ one. absurd (false≢true (sym one));
       nests = λ k. absurd (false≢true k);
+      apart = λ k. refl;
+      not-nested = λ k. refl;
     }
 
 laid-nested : (size : ℕ) (d c h : Geometry) → GeometryPasses d → GeometryPasses c → GeometryPasses h → denseBackOf d c h ≤ size
     → question20 c d ≡ true → Open size (nestedLayoutOf size d c h)
 laid-nested size d c h d-passes c-passes h-passes l aligned =
-    let two = laid-two size c h c-passes h-passes (omega arith) in
+    let two = laid-two false size c h c-passes h-passes (omega arith) in
     let first = size - denseBackOf d c h in
     let nodes : first + 8 * (rows d * columns d) ≤ size = omega arith in
     record {
@@ -147,6 +151,8 @@ laid-nested size d c h d-passes c-passes h-passes l aligned =
       longitude-geometry = refl;
       height-geometry = two .height-geometry;
       nests = λ k. record { separate = refl; beside = refl; aligned = aligned };
+      apart = λ k. refl;
+      not-nested = λ k. absurd (false≢true k);
     }
 
 -- What question 6 says of back.
@@ -216,7 +222,7 @@ all-pass d t h3 h4 h5 =
 -- An edition 2 image that opens.
 pub record OpenedTwo (t : TwoGridTrailer) (size : ℕ) (l : Layout) : Type 0 where
   pub is-open : Open size l
-  pub layout : twoGridLayoutOf size (t .corrections .geometry) (t .heights .geometry) ≡ l
+  pub layout : twoGridLayoutOf (isUnbounded t) size (t .corrections .geometry) (t .heights .geometry) ≡ l
   pub bytes : backsPass t size ≡ true
 
 judged-two : (t : TwoGridTrailer) (size : ℕ) (l : Layout) → judgeTwo t size ≡ values l → OpenedTwo t size l
@@ -229,9 +235,9 @@ judged-two t size l k =
     let h4 = asked (ofBoth question4 t) 4 _ l (h3 .1) in
     let h5 = asked (ofBoth question5 t) 5 _ l (h4 .1) in
     let h6 = asked (backsPass t size) 6 _ l (h5 .1) in
-    let e : twoGridLayoutOf size c h ≡ l = cc in
+    let e : twoGridLayoutOf (isUnbounded t) size c h ≡ l = cc in
     let both = both-pass t (h3 .0) (h4 .0) (h5 .0) in
-    let o = laid-two size c h (both .0) (both .1) (omega (arith, backs-are t size (h6 .0) .0)) in
+    let o = laid-two (isUnbounded t) size c h (both .0) (both .1) (omega (arith, backs-are t size (h6 .0) .0)) in
     record { is-open = subst (Open size) e o; layout = e; bytes = h6 .0 }
 
 -- A kind 1 image that opens.
@@ -258,7 +264,7 @@ judged-nested d t size l enough k =
     let o = laid-nested size (d .geometry) c h (all .1) (all .0 .0) (all .0 .1) back (h20 .0) in
     record { is-open = subst (Open size) e o; layout = e; enough = enough; bytes = h6 .0 }
 
--- Edition 2: an image that opens is of kind 0 or of kind 1.
+-- Edition 2: an image that opens is of kind 0 or 2, or of kind 1.
 by-kind : {G : Type 0} (b : List ℕ) (l : Layout) → openingTwo b ≡ values l
     → (80 ≤ length b → isNested (twoGridTrailerOf b) ≡ false → OpenedTwo (twoGridTrailerOf b) (length b) l → G)
     → (80 ≤ length b → isNested (twoGridTrailerOf b) ≡ true → OpenedNested (denseTrailerOf b) (twoGridTrailerOf b) (length b) l → G) → G

@@ -8,7 +8,6 @@ use lib.ListN.{take, drop}
 use Rattle.integers.specs.Rounding.{roundHalfUp}
 use Rattle.rules.specs.declared.Geometry.{Geometry}
 use Rattle.rules.specs.declared.Scale.{Scale}
-use Rattle.rules.specs.declared.Plane.{Plane}
 use Rattle.rules.specs.Answers.{values, number}
 use Rattle.rules.specs.Image.{i32At, plane}
 use Rattle.rules.specs.Questions.{question3, question4, boundsWithin, question5, questions3To5}

@@ -8,7 +8,8 @@ use Rattle.rules.specs.declared.Refusal.{Refusal}
 use Rattle.rules.specs.declared.Refusal.the-variants.{ImageLength, Edition, NodeCount, Spacing, GridBounds, NodeBytes}
 use Rattle.rules.specs.declared.Refusal.the-variants.{FixLimits, OutsideBounds, NodeLimits, IterateOutside, NotSettled}
 use Rattle.rules.specs.declared.Refusal.the-variants.{Slope, BadNotation, ListLengths, OffHeightGrid}
-use Rattle.rules.specs.declared.Refusal.the-variants.{VdatumFile, VdatumHeight, Ntv2File, Ntv2Shift, DenseAlignment, DenseBorder}
+use Rattle.rules.specs.declared.Refusal.the-variants.{VdatumFile, VdatumHeight, Ntv2File, Ntv2Shift}
+use Rattle.rules.specs.declared.Refusal.the-variants.{DenseAlignment, DenseBorder, BorderCorrection}
 
 -- Values, or the number of the question whose answer was no.
 pub data Outcome (A : Type 0) : Type 0 where
@@ -48,6 +49,7 @@ numberOf Ntv2File = 18
 numberOf Ntv2Shift = 19
 numberOf DenseAlignment = 20
 numberOf DenseBorder = 21
+numberOf BorderCorrection = 22
 
 -- What a call gives: 0 with values, else the number.
 abbrev pub statusOf : {A : Type 0} → Outcome A → ℤ

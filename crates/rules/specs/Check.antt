@@ -1,5 +1,5 @@
--- Document 01, "Grid check": question 9 over all nodes, the largest steps between neighbours, question 12; and note 5 of document 02: both
--- of them with a dense grid, and question 21.
+-- Document 01, "Grid check": question 9 over all nodes, the largest steps between neighbours, question 12; and of document 02 note 5: both
+-- of them with a dense grid, and question 21; and note 6: question 22.
 use mathlib.Core.Bool.{Bool, true, cond, _&&_}
 use mathlib.Core.List.{List, [], _∷_}
 use Prim.Native.Nat.{ℕ, zero, suc, _+_, _-_, _*_, max}
@@ -101,19 +101,37 @@ question21 g =
     borderAgrees (g .corrections) (g .dense) (g .latitude) (g .denseLatitude)
     && borderAgrees (g .corrections) (g .dense) (g .longitude) (g .denseLongitude)
 
--- A question that is put only where there is a dense grid.
+-- 22. Is each correction of each node on the border zero? Kind 2 takes them as zero outside. Of one value: n nodes on two opposite sides
+-- are zero, and so are all on the four sides, the corner nodes among them twice.
+unfoldable pub bothZero : (n : ℕ) → (side opposite : ℕ → ℤ) → Bool
+bothZero n f h = every n (λ i. within 0 (f i) && within 0 (h i))
+
+unfoldable pub borderZero : Geometry → (ℕ → ℕ → ℤ) → Bool
+borderZero g f =
+    bothZero (columns g) (λ column. f 0 column) (λ column. f (rows g - 1) column)
+    && bothZero (rows g) (λ row. f row 0) (λ row. f row (columns g - 1))
+
+unfoldable pub question22 : Grid → Bool
+question22 g = borderZero (g .corrections) (g .latitude) && borderZero (g .corrections) (g .longitude)
+
+-- A question that is put only where there is a dense grid, and one that is put only to kind 2.
 abbrev pub whereNested : Grid → Bool → Bool
 whereNested g answer = cond (g .nested) answer true
 
--- The check of a grid: question 9 and question 12, each with the dense grid last, 21, then the findings, which are the coarse grid's.
+abbrev pub whereUnbounded : Grid → Bool → Bool
+whereUnbounded g answer = cond (g .unbounded) answer true
+
+-- The check of a grid: question 9, 22 and question 12, 9 and 12 each with the dense grid last, 21, then the findings, which are the coarse
+-- grid's.
 unfoldable pub check : Grid → Outcome Findings
 check g =
     ask (allPass g) 9
     (ask (whereNested g (densePasses g)) 9
+    (ask (whereUnbounded g (question22 g)) 22
     (ask (question12 g (findingsOf g)) 12
     (ask (whereNested g (denseSlopesPass g)) 12
     (ask (whereNested g (question21 g)) 21
-    (values (findingsOf g))))))
+    (values (findingsOf g)))))))
 
 -- The grid check of an image: questions 1 to 6 first.
 unfoldable pub gridCheck : List ℕ → Outcome Findings

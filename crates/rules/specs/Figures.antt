@@ -13,7 +13,8 @@ use Rattle.rules.specs.Image.{u64At, i32At, i64At, trailerOf, editionOf,
 use Rattle.rules.specs.Questions.{question3, question4, boundsWithin, question5, backPasses, question6, judge, opening}
 use Rattle.rules.specs.Bilinear.{cellOf, partOf, weighted, bilinear, valueAt}
 use Rattle.rules.specs.Lookup.{onAxis, inside, squarePasses, question9, correctionLookup, heightLookup}
-use Rattle.rules.specs.Ways.{question7, plus, minus, position, back, settled, iterate, out, convertOver, convert, wayBack, wayOut}
+use Rattle.rules.specs.Ways.{question7, plus, minus, measured, back, settled, iterate, out}
+use Rattle.rules.specs.Ways.{convertOver, convert, wayBack, wayOut}
 use Rattle.rules.specs.Check.{every, largest, allWithin, allPass, stepNorth, stepEast, stepsOf}
 use Rattle.rules.specs.Check.{slopePasses, question12, findingsOf, check, gridCheck}
 use Rattle.rules.specs.Notation.{total, readable, magnitudeRead, readNotation, totalWritten, split, writeNotation}
@@ -81,16 +82,16 @@ worked = record { degrees = 52; minutes = 5; fraction = 2987000; letter = 78 }
 
 pub record Figures : Type 0 where
   -- Back (500, 500), H 10,000: (602, 450), height 440,003, count 1.
-  pub back-middle : wayBack gridG (at (pos 500) (pos 500)) (pos 10000) ≡ values (position (at (pos 602) (pos 450)) (pos 440003) 1)
+  pub back-middle : wayBack gridG (at (pos 500) (pos 500)) (pos 10000) ≡ values (measured (at (pos 602) (pos 450)) (pos 440003) 1)
   -- Out (602, 450), h 440,003: (500, 500), 10,000, count 2.
-  pub out-middle : wayOut gridG (at (pos 602) (pos 450)) (pos 440003) ≡ values (position (at (pos 500) (pos 500)) (pos 10000) 2)
+  pub out-middle : wayOut gridG (at (pos 602) (pos 450)) (pos 440003) ≡ values (measured (at (pos 500) (pos 500)) (pos 10000) 2)
   -- Back (2000, 2000), H 0: (2108, 1950), 430,010.
-  pub back-corner : wayBack gridG (at (pos 2000) (pos 2000)) (pos 0) ≡ values (position (at (pos 2108) (pos 1950)) (pos 430010) 1)
+  pub back-corner : wayBack gridG (at (pos 2000) (pos 2000)) (pos 0) ≡ values (measured (at (pos 2108) (pos 1950)) (pos 430010) 1)
   -- Back (2001, 2000): 8.
   pub back-outside : wayBack gridG (at (pos 2001) (pos 2000)) (pos 0) ≡ number 8
   -- Back (125, 0): latitude correction 100.5 gives 101.
   pub half-up : correctionsOver gridG (at (pos 125) (pos 0)) ≡ values (record { latitude = pos 101; longitude = negℤ (pos 50) })
-  pub back-half : wayBack gridG (at (pos 125) (pos 0)) (pos 0) ≡ values (position (at (pos 226) (negℤ (pos 50))) (pos 430000) 1)
+  pub back-half : wayBack gridG (at (pos 125) (pos 0)) (pos 0) ≡ values (measured (at (pos 226) (negℤ (pos 50))) (pos 430000) 1)
   -- With longitude correction −100 − column, (0, 500) gives −100 and (0, 700) gives −101.
   pub half-below-zero : correctionsOver slanted (at (pos 0) (pos 500)) ≡ values (record { latitude = pos 100; longitude = negℤ (pos 100) })
   pub down-below-zero : correctionsOver slanted (at (pos 0) (pos 700)) ≡ values (record { latitude = pos 100; longitude = negℤ (pos 101) })
@@ -100,7 +101,7 @@ pub record Figures : Type 0 where
   pub out-steep : wayOut steep (at (pos 1500) (pos 500)) (pos 0) ≡ number 11
   pub check-steep : gridCheck steep ≡ number 12
   -- Latitude corrections 100, 110, 120 by row: out (602, 450), h 440,003 gives (497, 500), 10,000, count 2.
-  pub out-sloping : wayOut sloping (at (pos 602) (pos 450)) (pos 440003) ≡ values (position (at (pos 497) (pos 500)) (pos 10000) 2)
+  pub out-sloping : wayOut sloping (at (pos 602) (pos 450)) (pos 440003) ≡ values (measured (at (pos 497) (pos 500)) (pos 10000) 2)
   -- 52° 5′ 29.87000″ N is 52,091,630,556, and is written so again.
   pub read-worked : readNotation false worked ≡ values (pos 52091630556)
   pub written-worked : writeNotation false (pos 52091630556) ≡ values worked

@@ -1,5 +1,5 @@
--- Document 01, "Units and the image", and notes 1 and 5 of document 02: little-endian numbers, the trailers of both editions, the geometry
--- and its bounds, where the values lie, the grid.
+-- Document 01, "Units and the image", and notes 1, 5 and 6 of document 02: little-endian numbers, the trailers of both editions, the
+-- geometry and its bounds, where the values lie, the grid.
 use mathlib.Core.Bool.{Bool, true, false, cond}
 use mathlib.Core.List.{List}
 use Prim.Native.Nat.{ℕ, _+_, _-_, _*_}
@@ -66,6 +66,10 @@ twoGridTrailerOf b =
 abbrev pub isNested : TwoGridTrailer → Bool
 isNested t = eqb (t .kind) 1
 
+-- Kind 2 is laid out as kind 0, and answers points outside the bounds too.
+abbrev pub isUnbounded : TwoGridTrailer → Bool
+isUnbounded t = eqb (t .kind) 2
+
 -- Its geometry and, at 32, back to its nodes stand in the 36 bytes directly before the correction nodes, by the trailer's back to these.
 unfoldable pub denseTrailerOf : List ℕ → GridTrailer
 denseTrailerOf b =
@@ -117,6 +121,7 @@ layoutOf size g =
     record {
       separate = false;
       nested = false;
+      unbounded = false;
       latitude = record { geometry = g; first = first; stride = 12 };
       longitude = record { geometry = g; first = first + 4; stride = 12 };
       height = record { geometry = g; first = first + 8; stride = 12 };
@@ -124,13 +129,14 @@ layoutOf size g =
     }
 
 -- Edition 2's: a correction node is latitude correction and longitude correction, a height node the height; correction nodes, height nodes
--- and trailer touch each other.
-abbrev pub twoGridLayoutOf : (size : ℕ) → (corrections heights : Geometry) → Layout
-twoGridLayoutOf size c h =
+-- and trailer touch each other. Kind 2's is the same, but unbounded.
+abbrev pub twoGridLayoutOf : (unbounded : Bool) → (size : ℕ) → (corrections heights : Geometry) → Layout
+twoGridLayoutOf unbounded size c h =
     let first = size - correctionBackOf c h in
     record {
       separate = true;
       nested = false;
+      unbounded = unbounded;
       latitude = record { geometry = c; first = first; stride = 8 };
       longitude = record { geometry = c; first = first + 4; stride = 8 };
       height = record { geometry = h; first = size - heightBackOf h; stride = 4 };
@@ -140,10 +146,11 @@ twoGridLayoutOf size c h =
 -- Kind 1's: the same, with a dense grid whose nodes are correction nodes.
 abbrev pub nestedLayoutOf : (size : ℕ) → (dense corrections heights : Geometry) → Layout
 nestedLayoutOf size d c h =
-    let l = twoGridLayoutOf size c h in
+    let l = twoGridLayoutOf false size c h in
     record {
       separate = true;
       nested = true;
+      unbounded = false;
       latitude = l .latitude;
       longitude = l .longitude;
       height = l .height;
@@ -156,7 +163,7 @@ layoutFor b true =
     let t = twoGridTrailerOf b in
     let c = t .corrections .geometry in
     let h = t .heights .geometry in
-    cond (isNested t) (nestedLayoutOf (length b) (denseTrailerOf b .geometry) c h) (twoGridLayoutOf (length b) c h)
+    cond (isNested t) (nestedLayoutOf (length b) (denseTrailerOf b .geometry) c h) (twoGridLayoutOf (isUnbounded t) (length b) c h)
 layoutFor b false = layoutOf (length b) (trailerOf b .geometry)
 
 -- The plane of longitude corrections whose nodes begin with the latitude corrections of a plane.
@@ -169,11 +176,12 @@ plane b p row column = i32At b (p .first + p .stride * (row * columns (p .geomet
 
 -- A grid, the content of an image: the geometry of the corrections and that of the quasi-geoid heights, and by row and column the latitude
 -- correction, the longitude correction and the height. Row 0 is the southern one, column 0 the western. In edition 1 both geometries are
--- the trailer's one; in edition 2 the heights stand on a separate grid. Where a dense grid is nested in that of the corrections, its
--- geometry and its corrections.
+-- the trailer's one; in edition 2 the heights stand on a separate grid. Whether points outside the bounds are answered too. Where a dense
+-- grid is nested in that of the corrections, its geometry and its corrections.
 pub record Grid : Type 0 where
   pub separate : Bool
   pub nested : Bool
+  pub unbounded : Bool
   pub corrections : Geometry
   pub heights : Geometry
   pub dense : Geometry
@@ -189,6 +197,7 @@ gridOf b l =
     record {
       separate = l .separate;
       nested = l .nested;
+      unbounded = l .unbounded;
       corrections = l .latitude .geometry;
       heights = l .height .geometry;
       dense = l .dense .geometry;

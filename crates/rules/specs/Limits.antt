@@ -72,7 +72,7 @@ pub record Nests (l : Layout) : Type 0 where
   pub aligned : question20 (l .latitude .geometry) (l .dense .geometry) ≡ true
 
 -- And of any layout: each plane is in the image, both planes of corrections have one geometry, and so has that of the heights where
--- these are not on a separate grid.
+-- these are not on a separate grid; an unbounded one has its heights on a separate grid, and no dense grid.
 pub record Open (size : ℕ) (l : Layout) : Type 0 where
   pub latitude : InImage size (l .latitude)
   pub longitude : InImage size (l .longitude)
@@ -82,16 +82,28 @@ pub record Open (size : ℕ) (l : Layout) : Type 0 where
   pub longitude-geometry : l .longitude .geometry ≡ l .latitude .geometry
   pub height-geometry : l .separate ≡ false → l .height .geometry ≡ l .latitude .geometry
   pub nests : l .nested ≡ true → Nests l
+  pub apart : l .unbounded ≡ true → l .separate ≡ true
+  pub not-nested : l .unbounded ≡ true → l .nested ≡ false
 
 -- And what opening and question 8 establish of an image and a point: it is open with a layout, and the point is in its bounds.
 pub record OpenAround (b : List ℕ) (l : Layout) (p : Point) : Type 0 where
   pub layout : Open (length b) l
   pub point : inside (l .latitude .geometry) p ≡ true
 
+-- The same where an unbounded image is open: any point will do.
+pub record OpenFor (b : List ℕ) (l : Layout) (p : Point) : Type 0 where
+  pub layout : Open (length b) l
+  pub point : l .unbounded ≡ false → inside (l .latitude .geometry) p ≡ true
+
 -- What question 7 establishes of a point, and question 8 too where the geometry passes.
 pub record PointWithin (p : Point) : Type 0 where
   pub latitude : natAbs (p .latitude) ≤ latitudeLimit
   pub longitude : natAbs (p .longitude) ≤ longitudeLimit
+
+-- And of a point at most a correction away from one.
+pub record PointReached (p : Point) : Type 0 where
+  pub latitude : natAbs (p .latitude) ≤ latitudeLimit + correctionLimit
+  pub longitude : natAbs (p .longitude) ≤ longitudeLimit + correctionLimit
 
 -- What question 9 establishes of one value's corners, and of the corrections between them.
 pub record CornersWithin (limit : ℕ) (c : Square) : Type 0 where

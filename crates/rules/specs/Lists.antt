@@ -1,4 +1,4 @@
--- Document 01, "Lists of fixes", with question 14. A fix is three numbers, an answer five.
+-- Document 01, "Lists of fixes", with question 14, and the number 100 of document 02's note 6. A fix is three numbers, an answer five.
 use mathlib.Core.Bool.{Bool, _&&_}
 use mathlib.Core.List.{List, [], _∷_, _++_}
 use Prim.Native.Nat.{ℕ, _*_, _/_}
@@ -6,22 +6,22 @@ use lib.Dec.{eqb}
 use lib.IntN.{ℤ, pos}
 use lib.ListN.{length}
 use Rattle.rules.specs.declared.Point.{Point}
-use Rattle.rules.specs.declared.Position.{Position}
 use Rattle.rules.specs.declared.Way.{Way}
 use Rattle.rules.specs.declared.Way.the-variants as way
 use Rattle.rules.specs.Answers.{Outcome, values, number, ask, andThen, after}
 use Rattle.rules.specs.Image.{gridOf}
 use Rattle.rules.specs.Questions.{opening}
-use Rattle.rules.specs.Ways.{convertOver, sourceOf}
+use Rattle.rules.specs.Ways.{Accepted, convertOver, sourceOf}
 
--- An answer: of an accepted fix latitude, longitude, height, count and 0, of a refused one four zeros and its number.
-abbrev pub fiveOf : Outcome Position → List ℤ
-fiveOf (values p) = p .latitude ∷ p .longitude ∷ p .height ∷ pos (p .count) ∷ pos 0 ∷ []
+-- An answer: of an accepted fix latitude, longitude, height, count and 0, or 100 without a height; of a refused one four zeros and its
+-- number.
+abbrev pub fiveOf : Outcome Accepted → List ℤ
+fiveOf (values a) = let p = a .position in p .latitude ∷ p .longitude ∷ p .height ∷ pos (p .count) ∷ pos (a .number) ∷ []
 fiveOf (number n) = pos 0 ∷ pos 0 ∷ pos 0 ∷ pos 0 ∷ pos n ∷ []
 
 -- The answers to all fixes, in their order, each by the same single conversion. One or two numbers left over, which question 14 excludes,
 -- give none.
-abbrev pub answersOf : (Point → ℤ → Outcome Position) → List ℤ → List ℤ
+abbrev pub answersOf : (Point → ℤ → Outcome Accepted) → List ℤ → List ℤ
 answersOf single (x ∷ y ∷ height ∷ rest) = fiveOf (single (record { latitude = x; longitude = y }) height) ++ answersOf single rest
 answersOf single (x ∷ y ∷ []) = []
 answersOf single (x ∷ []) = []

@@ -1,8 +1,9 @@
 -- Document 01, "Questions in order": the bounds of questions 8 and 10, question 9, and the lookups of the values at a point in the bounds;
--- and notes 1 and 5 of document 02: question 15, the lookups on two grids, and which of two grids a point's corrections are taken from.
+-- and notes 1, 5 and 6 of document 02: question 15, the lookups on two grids, which of two grids a point's corrections are taken from, and
+-- the lookups at any point.
 use mathlib.Core.Bool.{Bool, true, false, cond, _&&_}
 use Prim.Native.Nat.{ℕ}
-use lib.IntN.{ℤ}
+use lib.IntN.{ℤ, pos}
 use lib.Signed.{leZ}
 use Rattle.rules.specs.declared.Axis.{Axis}
 use Rattle.rules.specs.declared.Geometry.{Geometry}
@@ -15,6 +16,11 @@ use Rattle.rules.specs.Units.{within, correctionLimit, quasiGeoidLimit}
 use Rattle.rules.specs.Answers.{Outcome, values, number, ask, numberOf}
 use Rattle.rules.specs.Image.{Grid, farBound}
 use Rattle.rules.specs.Bilinear.{cellFor, corners, cornersFor, valueAt}
+
+-- A quasi-geoid height, or that there is none.
+pub data Height : Type 0 where
+  some : ℤ → Height
+  none : Height
 
 -- An angle from an axis's start to its far bound, both included.
 unfoldable pub onAxis : Axis → ℤ → Bool
@@ -49,8 +55,8 @@ quasiGeoidAt g p = valueAt (g .heights) (g .height) p
 unfoldable pub correctionLookup : Grid → Point → Outcome Correction
 correctionLookup g p = ask (question9 g p) 9 (values (correctionsAt g p))
 
-unfoldable pub heightLookup : Grid → Point → Outcome ℤ
-heightLookup g p = ask (question9 g p) 9 (values (quasiGeoidAt g p))
+unfoldable pub heightLookup : Grid → Point → Outcome Height
+heightLookup g p = ask (question9 g p) 9 (values (some (quasiGeoidAt g p)))
 
 -- Edition 2: 9 asks the point's cell on the correction grid for corrections,
 unfoldable pub correctionsPass : Grid → Point → Bool
@@ -72,6 +78,7 @@ denseGrid g =
     record {
       separate = true;
       nested = false;
+      unbounded = false;
       corrections = g .dense;
       heights = g .heights;
       dense = g .dense;
@@ -87,10 +94,22 @@ abbrev pub gridFor : Grid → Point → Grid
 gridFor g p = cond (g .nested && inside (g .dense) p) (denseGrid g) g
 
 -- 15. Is the Bessel point on the height grid, its bounds included? Then question 9, then the height.
-unfoldable pub heightGridLookup : Grid → Point → Outcome ℤ
-heightGridLookup g q = ask (inside (g .heights) q) 15 (ask (heightsPass g q) 9 (values (quasiGeoidAt g q)))
+unfoldable pub heightGridLookup : Grid → Point → Outcome Height
+heightGridLookup g q = ask (inside (g .heights) q) 15 (ask (heightsPass g q) 9 (values (some (quasiGeoidAt g q))))
+
+-- Kind 2, at any point: outside the bounds of the corrections both are zero, and no cell is used,
+abbrev pub noCorrection : Correction
+noCorrection = record { latitude = pos 0; longitude = pos 0 }
+
+unfoldable pub correctionsOrZero : Grid → Point → Outcome Correction
+correctionsOrZero g p = cond (inside (g .corrections) p) (correctionGridLookup g p) (values noCorrection)
+
+-- and off the height grid there is no height.
+unfoldable pub heightOrNone : Grid → Point → Outcome Height
+heightOrNone g q = cond (inside (g .heights) q) (ask (heightsPass g q) 9 (values (some (quasiGeoidAt g q)))) (values none)
 
 -- The code's answer, in these terms.
-abbrev pub heightLookupOf : HeightLookup → Outcome ℤ
-heightLookupOf (found.Height z) = values z
+abbrev pub heightLookupOf : HeightLookup → Outcome Height
+heightLookupOf (found.Height z) = values (some z)
+heightLookupOf found.NoHeight = values none
 heightLookupOf (found.Refused r) = number (numberOf r)

@@ -55,6 +55,10 @@ denseStopDistance = 3
 abbrev pub mostEvaluations : ℕ
 mostEvaluations = 5
 
+-- The number of an answer without a height (document 02, note 6).
+abbrev pub noHeightNumber : ℕ
+noHeightNumber = 100
+
 -- Demand 3: how far inside the bounds a fix and a Bessel point lie, in nd, and the limit of that point's NAP height.
 abbrev pub fixMargin : ℕ
 fixMargin = 10000000

@@ -28,6 +28,9 @@ pub const DENSE_STOP_DISTANCE: u64 = 3;
 
 pub const MOST_EVALUATIONS: u64 = 5;
 
+// The number of an answer without a height.
+pub const NO_HEIGHT: u64 = 100;
+
 // One axis of a grid: the southern or western bound in nd, the spacing in nd, and the count of rows or columns.
 pub struct Axis {
     pub start: i64,
@@ -72,12 +75,14 @@ pub struct Plane {
 }
 
 // Where an opened image has its values: the planes of latitude corrections, of longitude corrections and of quasi-geoid heights; whether
-// these stand on a separate grid, as in edition 2, or at the corrections' nodes, as in edition 1; and whether a dense grid lies inside that
-// of the corrections, with the plane of its latitude corrections, each followed by the node's longitude correction. Where there is no dense
-// grid, `dense` is the plane of latitude corrections once more, and nothing reads it.
+// these stand on a separate grid, as in edition 2, or at the corrections' nodes, as in edition 1; whether points outside the bounds are
+// answered too; and whether a dense grid lies inside that of the corrections, with the plane of its latitude corrections, each followed by
+// the node's longitude correction. Where there is no dense grid, `dense` is the plane of latitude corrections once more, and nothing reads
+// it.
 pub struct Layout {
     pub separate: bool,
     pub nested: bool,
+    pub unbounded: bool,
     pub latitude: Plane,
     pub longitude: Plane,
     pub height: Plane,
@@ -165,7 +170,7 @@ pub struct Scale {
     pub under: u64,
 }
 
-// The refusals, in the order of their numbers, 1 to 21.
+// The refusals, in the order of their numbers, 1 to 22.
 pub enum Refusal {
     ImageLength,
     Edition,
@@ -188,6 +193,7 @@ pub enum Refusal {
     Ntv2Shift,
     DenseAlignment,
     DenseBorder,
+    BorderCorrection,
 }
 
 // What opening an image answers: whether its heights stand on a separate grid, which with its trailer says where its values lie; or a
@@ -197,15 +203,17 @@ pub enum Opened {
     Refused(Refusal),
 }
 
-// What the lookup of the quasi-geoid height at a point answers.
+// What the lookup of the quasi-geoid height at a point answers: the height, that there is none, or a refusal.
 pub enum HeightLookup {
     Height(i64),
+    NoHeight,
     Refused(Refusal),
 }
 
-// What a conversion answers.
+// What a conversion answers: values, values without a height, or a refusal. Without a height, 0 stands for it.
 pub enum Answer {
     Values(Position),
+    WithoutHeight(Position),
     Refused(Refusal),
 }
 
@@ -257,8 +265,9 @@ pub struct Trip {
     pub returned: Position,
 }
 
-// What a trip answers.
+// What a trip answers: both answers with a height, both without one, or a refusal.
 pub enum TripAnswer {
     Returned(Trip),
+    WithoutHeights(Trip),
     Refused(Refusal),
 }

@@ -1,5 +1,5 @@
 -- What the check asks after its walk over the nodes, without a dense grid and with one; and that steps are small where question 9 passed.
-use mathlib.Core.Bool.{Bool, true, false, _&&_}
+use mathlib.Core.Bool.{Bool, true, false, false≢true, _&&_}
 use mathlib.Core.List.{List}
 use mathlib.Core.Path.{_≡_, refl, sym, ap, _∙_}
 use Prim.Native.Nat.{ℕ, _≤_}
@@ -15,7 +15,7 @@ use Rattle.rules.specs.Image.{Grid, gridOf}
 use Rattle.rules.specs.Limits.{Open}
 use Rattle.rules.specs.Questions.{opening}
 use Rattle.rules.specs.Check.{allWithin, allPass, stepsOf, question12, findingsOf, densePasses, denseSlopesPass}
-use Rattle.rules.specs.Check.{question21, whereNested, check, gridCheck}
+use Rattle.rules.specs.Check.{question21, question22, whereNested, whereUnbounded, check, gridCheck}
 use Rattle.rules.proofs.Answers.{asked, asked-no, followed, asked-then}
 use Rattle.rules.proofs.Slopes.{all-within, north-most, east-most}
 use Rattle.steps.specs.declared.CorrectionSteps.{CorrectionSteps}
@@ -26,10 +26,11 @@ use Rattle.slopes.specs.Slopes.{slopesPass, bothSlopesPass, LayoutPasses
 abbrev afterWalk : Grid → Findings → Outcome Findings
 afterWalk g f =
     ask (whereNested g (densePasses g)) 9
+    (ask (whereUnbounded g (question22 g)) 22
     (ask (question12 g f) 12
     (ask (whereNested g (denseSlopesPass g)) 12
     (ask (whereNested g (question21 g)) 21
-    (values f))))
+    (values f)))))
 
 check-next : (g : Grid) → check g ≡ andThen (gridWalk g) (afterWalk g)
 unfolding check gridWalk
@@ -53,12 +54,20 @@ module _ {size : ℕ} (b : List ℕ) {l : Layout} (o : Open size l) {f : Finding
   unfolding question12 slopesPass
   slopes-asked = rw (o .longitude-geometry)
 
-  pub plain-left : l .nested ≡ false → check g ≡ ask (slopesPass l f) 12 (values f)
+  pub plain-left : l .nested ≡ false → check g ≡ ask (whereUnbounded g (question22 g)) 22 (ask (slopesPass l f) 12 (values f))
   plain-left none = rw (check-next g, h, slopes-asked, none)
+
+  -- With a dense grid question 22 is not put.
+  bounded : l .nested ≡ true → l .unbounded ≡ false
+  bounded one = by (l .unbounded) (o .not-nested)
+    where
+      by : (t : Bool) → (t ≡ true → l .nested ≡ false) → t ≡ false
+      by true none = absurd (false≢true (sym (none refl) ∙ one))
+      by false none = refl
 
   one-by-one : l .nested ≡ true
       → check g ≡ ask (densePasses g) 9 (ask (slopesPass l f) 12 (ask (denseSlopesPass g) 12 (ask (question21 g) 21 (values f))))
-  one-by-one one = rw (check-next g, h, slopes-asked, one)
+  one-by-one one = rw (check-next g, h, slopes-asked, one, bounded one)
 
   pub nested-left : l .nested ≡ true
       → check g ≡ ask (densePasses g) 9 (ask (slopesPass l f && denseSlopesPass g) 12 (ask (question21 g) 21 (values f)))
@@ -95,7 +104,8 @@ passed-small b f h =
     let g = gridOf b (o .0) in
     let w = followed (gridWalk g) _ f (sym (check-next g) ∙ o .2) in
     let q9 = asked (whereNested g (densePasses g)) 9 _ f (w .2) in
-    let q12 = asked (question12 g (w .0)) 12 _ f (q9 .1) in
+    let q22 = asked (whereUnbounded g (question22 g)) 22 _ f (q9 .1) in
+    let q12 = asked (question12 g (w .0)) 12 _ f (q22 .1) in
     let d12 = asked (whereNested g (denseSlopesPass g)) 12 _ f (q12 .1) in
     let q21 = asked (whereNested g (question21 g)) 21 _ f (d12 .1) in
     let e : w .0 ≡ f = cc (q21 .1) in

@@ -1,5 +1,6 @@
-// The grid check: questions 1 to 6; question 9 over all nodes, question 12 and question 21.
+// The grid check: questions 1 to 6; question 9 over all nodes, questions 22, 12 and 21.
 use border::border_agrees;
+use border::border_is_zero;
 use image::layout_of;
 use image::open;
 use nodes::beside;
@@ -21,7 +22,7 @@ ghost use lib.ListN.{length};
 ghost use Rattle.rules.specs.Answers.{values};
 ghost use Rattle.rules.specs.Image.{gridOf};
 ghost use Rattle.rules.specs.Limits.{GeometryPasses, Open};
-ghost use Rattle.rules.specs.Check.{slopePasses, check, gridCheck, checkedOf};
+ghost use Rattle.rules.specs.Check.{slopePasses, question22, whereUnbounded, check, gridCheck, checkedOf};
 ghost use Rattle.walks.specs.Rows.{gridWalk};
 ghost use Rattle.slopes.specs.Slopes.{slopesPass, bothSlopesPass, LayoutPasses, stepMost, StepsWithin, FindingsWithin};
 
@@ -35,7 +36,7 @@ pub fn grid_check(image: &[u8]) -> Checked
     }
 }
 
-// Questions 9, 12 and 21 of an opened image.
+// Questions 9, 22, 12 and 21 of an opened image.
 fn check_planes(image: &[u8], l: Layout) -> Checked
     requires { ⌜ Open (length (now image)) l ⌝ }
     ensures { λ r. ⌜ checkedOf r ≡ check (gridOf (now (image .entry)) l) ⌝ }
@@ -45,6 +46,9 @@ fn check_planes(image: &[u8], l: Layout) -> Checked
         Walk::Largest(found) => {
             if l.nested {
                 return check_nested(image, l, found);
+            }
+            if !border_passes(image, l) {
+                return Checked::Refused(Refusal::BorderCorrection);
             }
             if slopes_pass(l, found) {
                 Checked::Passed(found)
@@ -71,6 +75,18 @@ fn check_nested(image: &[u8], l: Layout, coarse: Findings) -> Checked
         return Checked::Refused(Refusal::DenseBorder);
     }
     Checked::Passed(coarse)
+}
+
+// Question 22, which is put to kind 2 alone.
+fn border_passes(image: &[u8], l: Layout) -> bool
+    requires { ⌜ Open (length (now image)) l ⌝ }
+    ensures { λ r. ⌜ r ≡ whereUnbounded (gridOf (now (image .entry)) l) (question22 (gridOf (now (image .entry)) l)) ⌝ }
+{
+    if l.unbounded {
+        border_is_zero(image, l)
+    } else {
+        true
+    }
 }
 
 // Question 12 with a dense grid: of the three values, then of the dense corrections.

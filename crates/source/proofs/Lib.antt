@@ -1,2 +1,3 @@
 -- Laws of the source, for its functions and for the crates above.
 pub mod Sources
+pub mod Inside

@@ -1,6 +1,8 @@
-// What a way asks of an opened image at a point: the corrections and the quasi-geoid height together, or the height alone. The choice
-// between heights at the corrections' nodes and heights on a separate grid is made here.
+// What a way asks of an opened image at a point: whether it is in the bounds, the corrections and the quasi-geoid height together, or the
+// height alone. The choice between heights at the corrections' nodes and heights on a separate grid is made here.
+use geometry::in_bounds;
 use grids::height_on;
+use grids::height_or_none;
 use grids::look_up_grids;
 use lookup::HeldCell;
 use lookup::PointLookup;
@@ -12,18 +14,30 @@ use rules::HeightLookup;
 use rules::Layout;
 use rules::Point;
 ghost use mathlib.Core.Path.{_≡_};
-ghost use mathlib.Core.Bool.{false};
+ghost use mathlib.Core.Bool.{false, _||_};
 ghost use Rattle.rules.specs.Image.{gridOf};
-ghost use Rattle.rules.specs.Limits.{OpenAround};
-ghost use Rattle.rules.specs.Lookup.{heightLookup, heightLookupOf};
-ghost use Rattle.rules.specs.Ways.{sourceOf};
+ghost use Rattle.rules.specs.Limits.{GeometryPasses, OpenAround, OpenFor};
+ghost use Rattle.rules.specs.Lookup.{inside, heightLookup, heightLookupOf};
+ghost use Rattle.rules.specs.Ways.{boundedSource, sourceOf};
 ghost use Rattle.lookup.specs.Held.{pointLookupOf};
 ghost use Rattle.source.specs.Asked.{HeldFor, pointLookup};
+
+// Is a point in the bounds, or are there none? Questions 8 and 10.
+pub fn is_inside(l: Layout, p: Point) -> bool
+    requires { ⌜ GeometryPasses (l .latitude .geometry) ⌝ }
+    ensures { λ r. ⌜ r ≡ (l .unbounded || inside (l .latitude .geometry) p) ⌝ }
+{
+    if l.unbounded {
+        true
+    } else {
+        in_bounds(l.latitude.geometry, p)
+    }
+}
 
 // The corrections at a point in the bounds, then the height there: all values that the way back asks for.
 pub fn look_up(image: &[u8], l: Layout, q: Point) -> PointLookup
     requires { ⌜ OpenAround (now image) l q ⌝ }
-    ensures { λ r. ⌜ pointLookupOf r ≡ pointLookup (sourceOf (gridOf (now (image .entry)) l)) q ⌝ }
+    ensures { λ r. ⌜ pointLookupOf r ≡ pointLookup (boundedSource (gridOf (now (image .entry)) l)) q ⌝ }
 {
     if l.separate {
         return look_up_grids(image, l, q);
@@ -35,7 +49,7 @@ pub fn look_up(image: &[u8], l: Layout, q: Point) -> PointLookup
 // point's own.
 pub fn height_at(image: &[u8], l: Layout, h: HeldCell, q: Point) -> HeightLookup
     requires { ⌜ OpenAround (now image) l q × HeldFor h (now image) l q ⌝ }
-    ensures { λ r. ⌜ heightLookupOf r ≡ sourceOf (gridOf (now (image .entry)) l) .height q ⌝ }
+    ensures { λ r. ⌜ heightLookupOf r ≡ boundedSource (gridOf (now (image .entry)) l) .height q ⌝ }
 {
     if l.separate {
         return height_on(image, l.height, q);
@@ -43,11 +57,14 @@ pub fn height_at(image: &[u8], l: Layout, h: HeldCell, q: Point) -> HeightLookup
     height_held(image, l, h, q)
 }
 
-// The same where no cell is held.
+// The same where no cell is held, at any point of an image without bounds.
 pub fn look_up_height(image: &[u8], l: Layout, q: Point) -> HeightLookup
-    requires { ⌜ OpenAround (now image) l q ⌝ }
+    requires { ⌜ OpenFor (now image) l q ⌝ }
     ensures { λ r. ⌜ heightLookupOf r ≡ sourceOf (gridOf (now (image .entry)) l) .height q ⌝ }
 {
+    if l.unbounded {
+        return height_or_none(image, l.height, q);
+    }
     if l.separate {
         return height_on(image, l.height, q);
     }

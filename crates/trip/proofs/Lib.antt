@@ -1,2 +1,3 @@
 -- The return promise, of the values of a trip.
 pub mod Kept
+pub mod Numbers

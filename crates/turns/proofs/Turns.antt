@@ -13,7 +13,7 @@ use Rattle.rules.specs.Answers.{Outcome, values, number, ask, numberOf}
 use Rattle.rules.specs.Image.{gridOf}
 use Rattle.rules.specs.Limits.{OpenAround}
 use Rattle.rules.specs.Lookup.{inside, gridFor}
-use Rattle.rules.specs.Ways.{Source, Settled, settled, minus, iterate, sourceOf}
+use Rattle.rules.specs.Ways.{Source, Settled, settled, minus, iterate, boundedSource}
 use Rattle.lookup.specs.declared.HeldCell.{HeldCell}
 use Rattle.lookup.specs.Held.{correctionsIn, heldAt}
 use Rattle.rules.proofs.Answers.{asked-then}
@@ -54,7 +54,7 @@ by-answers g true true false q n more e = (refl, e)
 -- With n evaluations made of those that the way out makes at most, the next one, in the cell around r.
 module _ (b : List ℕ) (l : Layout) (p : Point) where
   abbrev source : Source
-  source = sourceOf (gridOf b l)
+  source = boundedSource (gridOf b l)
 
   abbrev bounds : Geometry
   bounds = l .latitude .geometry

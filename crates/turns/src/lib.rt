@@ -9,7 +9,7 @@ use rules::Point;
 use rules::Refusal;
 ghost use mathlib.Core.Path.{_≡_};
 ghost use mathlib.Core.Bool.{true};
-ghost use Rattle.rules.specs.Limits.{PointWithin, CorrectionWithin};
+ghost use Rattle.rules.specs.Limits.{PointWithin, PointReached, CorrectionWithin};
 ghost use Rattle.rules.specs.Lookup.{inside};
 ghost use Rattle.rules.specs.Ways as ways;
 ghost use Rattle.lookup.specs.Held.{Bounded, Holds};
@@ -48,8 +48,8 @@ fn turn_to(bounds: Geometry, stop: u64, r: Point, q: Point) -> Turn
 }
 
 // The stop rule: each angle differs by at most the stop distance.
-fn is_settled(stop: u64, q: Point, r: Point) -> bool
-    requires { ⌜ PointWithin q × PointWithin r ⌝ }
+pub fn is_settled(stop: u64, q: Point, r: Point) -> bool
+    requires { ⌜ PointReached q × PointReached r ⌝ }
     ensures { λ b. ⌜ b ≡ ways.settled stop q r ⌝ }
 {
     let northward = q.latitude - r.latitude;
@@ -62,7 +62,7 @@ fn is_settled(stop: u64, q: Point, r: Point) -> bool
 }
 
 // A point minus corrections.
-fn moved(p: Point, c: Correction) -> Point
+pub fn moved(p: Point, c: Correction) -> Point
     requires { ⌜ PointWithin p × CorrectionWithin c ⌝ }
     ensures { λ q. ⌜ q ≡ ways.minus p c ⌝ }
 {

@@ -4,7 +4,8 @@ use crate::{Case, Format, Stream};
 
 pub const USAGE: &str = "usage: compare [STREAM] [--seed N] [--count N] [--progress]
        compare [STREAM] --replay SEED:INDEX
-STREAM is --edition 1|2, --kind 1 (of edition 2, with a dense grid) or --files vdatum|ntv2";
+STREAM is --edition 1|2, --kind 1|2 (of edition 2, with a dense grid, or answering past the edge)
+or --files vdatum|ntv2";
 
 /// What the program is asked to do.
 #[derive(Clone, Debug, PartialEq, Eq)]
@@ -80,6 +81,7 @@ mod tests {
         let alone = |stream| run(&[stream], 1, 7, false);
         assert_eq!(parsed("--edition 2 --count 7"), alone(Stream::EditionTwo));
         assert_eq!(parsed("--kind 1 --count 7"), alone(Stream::KindOne));
+        assert_eq!(parsed("--kind 2 --count 7"), alone(Stream::KindTwo));
         assert_eq!(parsed("--files vdatum --count 7"), alone(VDATUM));
         assert_eq!(parsed("--files ntv2 --count 7"), alone(NTV2));
     }
@@ -97,6 +99,7 @@ mod tests {
         let second = "--edition 2 --replay 3:41";
         assert_eq!(parsed(second), replay(Stream::EditionTwo));
         assert_eq!(parsed("--kind 1 --replay 3:41"), replay(Stream::KindOne));
+        assert_eq!(parsed("--kind 2 --replay 3:41"), replay(Stream::KindTwo));
         assert_eq!(parsed("--files ntv2 --replay 3:41"), replay(NTV2));
     }
 
@@ -108,6 +111,7 @@ mod tests {
             "--edition 3",
             "--kind",
             "--kind 0",
+            "--kind 3",
             "--files",
             "--files gtx",
             "--replay 3",

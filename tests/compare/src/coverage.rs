@@ -1,6 +1,8 @@
 //! Which of the papers' numbers and counts a run has met, and over files which causes of refusals.
 
 use crate::{causes, Call, Cause, Outcome, Stream, Way};
+use reference::Number;
+use std::collections::BTreeMap;
 use std::fmt;
 
 /// A run of so many calls must meet every number of its stream and, over images, every count, over
@@ -17,10 +19,10 @@ pub struct Coverage {
     pub others: u64,
     pub fixes: u64,
     /// How often each number came, of calls and of fixes in lists. At 0: calls and fixes that
-    /// gave values.
-    pub numbers: [u64; 22],
+    /// gave values. At 100: fixes whose values have no height.
+    numbers: BTreeMap<Number, u64>,
     /// How often the way out answered with each count, 1 to 5. At 0: never.
-    pub counts: [u64; 6],
+    counts: [u64; 6],
     /// How often each cause was the only one to refuse a file.
     pub only_causes: Vec<(Cause, u64)>,
 }
@@ -37,7 +39,7 @@ impl Coverage {
             calls: 0,
             others: 0,
             fixes: 0,
-            numbers: [0; 22],
+            numbers: BTreeMap::new(),
             counts: [0; 6],
             only_causes: causes.into_iter().map(|cause| (cause, 0)).collect(),
         }
@@ -50,7 +52,7 @@ impl Coverage {
             return;
         }
         self.calls += 1;
-        self.numbers[outcome.number as usize] += 1;
+        self.add_number(outcome.number);
         match call {
             Call::List(list) if outcome.number == 0 => self.add_answers(list.way, outcome),
             Call::ConvertFile(file) => {
@@ -65,11 +67,20 @@ impl Coverage {
     fn add_answers(&mut self, way: Way, outcome: &Outcome) {
         for answer in outcome.written.chunks_exact(5) {
             self.fixes += 1;
-            self.numbers[answer[4] as usize] += 1;
-            if way == Way::Out && answer[4] == 0 {
+            self.add_number(answer[4]);
+            if way == Way::Out && [0, 100].contains(&answer[4]) {
                 self.counts[answer[3] as usize] += 1;
             }
         }
+    }
+
+    fn add_number(&mut self, number: Number) {
+        *self.numbers.entry(number).or_default() += 1;
+    }
+
+    /// How often a number came.
+    pub fn times(&self, number: Number) -> u64 {
+        self.numbers.get(&number).copied().unwrap_or(0)
     }
 
     fn add_only_cause(&mut self, only: Cause) {
@@ -82,7 +93,7 @@ impl Coverage {
     /// how often it was met.
     fn wanted(&self) -> Vec<(String, u64)> {
         let numbers = self.stream.numbers().into_iter();
-        let numbers = numbers.map(|it| (format!("number {it}"), self.numbers[it as usize]));
+        let numbers = numbers.map(|it| (format!("number {it}"), self.times(it)));
         if let Stream::Files(_) = self.stream {
             let causes = self.only_causes.iter();
             let causes = causes.map(|(cause, times)| (format!("only cause {cause}"), *times));

@@ -35,6 +35,8 @@ pub use file_grids::{FileAxis, Float, GridOfFile, Part};
 pub use library::Library;
 pub use random::Random;
 pub use report::SHOWN_ROWS;
-pub use steps::{cell_of, points_on_the_way, points_until_the_stop, stop_rule_holds};
+pub use steps::{
+    cell_of, nearest_point, points_on_the_way, points_until_the_stop, stop_rule_holds,
+};
 pub use stream::Stream;
 pub use why::causes;

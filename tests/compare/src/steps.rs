@@ -1,13 +1,13 @@
-//! The way out, step by step.
+//! The way out, step by step, and where its points lie.
 
 use reference::{Geometry, Image, Point};
 
-/// The points p0, p1 and on to p5, whether or not the stop rule holds: as far as each is in the
-/// bounds and the corrections at the one before can be looked up.
+/// The points p0, p1 and on to p5, whether or not the stop rule holds: as far as the image reaches
+/// each and the corrections at the one before can be looked up.
 pub fn points_on_the_way(image: &Image, given: Point) -> Vec<Point> {
     let mut here = given;
     let mut points = Vec::new();
-    while points.len() < 6 && image.in_bounds(here) {
+    while points.len() < 6 && image.reaches(here) {
         points.push(here);
         let Ok([latitude, longitude]) = image.corrections(here) else {
             break;
@@ -42,4 +42,13 @@ pub fn stop_rule_holds(distance: i128, here: Point, next: Point) -> bool {
 pub fn cell_of(geometry: &Geometry, point: Point) -> (i64, i64) {
     let (latitude, longitude) = geometry.places(point);
     (latitude.cell as i64, longitude.cell as i64)
+}
+
+/// The point of a grid that is nearest to a point.
+pub fn nearest_point(geometry: &Geometry, point: Point) -> Point {
+    let (south, west) = (geometry.south.into(), geometry.west.into());
+    Point {
+        latitude: point.latitude.clamp(south, geometry.north()),
+        longitude: point.longitude.clamp(west, geometry.east()),
+    }
 }

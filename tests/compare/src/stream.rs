@@ -13,20 +13,28 @@ pub enum Stream {
     EditionTwo,
     /// Images of edition 2 with a dense grid.
     KindOne,
+    /// Images of edition 2 that answer fixes past the edge too.
+    KindTwo,
     /// Files of a format.
     Files(Format),
 }
 
 impl Stream {
-    pub const ALL: [Stream; 5] = [
+    pub const ALL: [Stream; 6] = [
         Stream::EditionOne,
         Stream::EditionTwo,
         Stream::KindOne,
+        Stream::KindTwo,
         Stream::Files(Format::Vdatum),
         Stream::Files(Format::Ntv2),
     ];
     /// The streams over images.
-    pub const IMAGES: [Stream; 3] = [Stream::EditionOne, Stream::EditionTwo, Stream::KindOne];
+    pub const IMAGES: [Stream; 4] = [
+        Stream::EditionOne,
+        Stream::EditionTwo,
+        Stream::KindOne,
+        Stream::KindTwo,
+    ];
 
     /// The stream over images of an edition.
     pub fn of_edition(edition: u32) -> Option<Stream> {
@@ -39,7 +47,11 @@ impl Stream {
 
     /// The stream over images of a kind that has its own.
     pub fn of_kind(kind: u32) -> Option<Stream> {
-        (kind == 1).then_some(Stream::KindOne)
+        match kind {
+            1 => Some(Stream::KindOne),
+            2 => Some(Stream::KindTwo),
+            _ => None,
+        }
     }
 
     /// The call of one case.
@@ -48,6 +60,7 @@ impl Stream {
             Stream::EditionOne => cases::call(seed, index),
             Stream::EditionTwo => cases::two_grids::call(seed, index),
             Stream::KindOne => cases::three_grids::call(seed, index),
+            Stream::KindTwo => cases::unbounded::call(seed, index),
             Stream::Files(format) => cases::files::call(format, seed, index),
         }
     }
@@ -57,7 +70,7 @@ impl Stream {
     pub fn counts(self, call: &Call) -> bool {
         match self {
             Stream::EditionOne | Stream::Files(_) => true,
-            Stream::EditionTwo | Stream::KindOne => {
+            Stream::EditionTwo | Stream::KindOne | Stream::KindTwo => {
                 let trailer = call.image().and_then(Trailer::read);
                 trailer.is_some_and(|it| it.edition == 2)
             }
@@ -65,12 +78,14 @@ impl Stream {
     }
 
     /// The numbers that a full run must meet among the calls that it counts: edition 1 knows no
-    /// 15, the streams of edition 2 have no notations, and 20 and 21 need a dense grid.
+    /// 15, the streams of edition 2 have no notations, 20 and 21 need a dense grid, and kind 2 has
+    /// 22 and 100, and of those that are not put to it none.
     pub fn numbers(self) -> Vec<Number> {
         match self {
             Stream::EditionOne => (0..=14).collect(),
             Stream::EditionTwo => (0..=12).chain(14..=15).collect(),
             Stream::KindOne => (0..=12).chain(14..=15).chain(20..=21).collect(),
+            Stream::KindTwo => (0..=7).chain([9, 11, 12, 14, 22, 100]).collect(),
             Stream::Files(format) => {
                 let refusals = format.layout().refusals;
                 [0].into_iter().chain(refusals).collect()
@@ -85,6 +100,7 @@ impl fmt::Display for Stream {
             Stream::EditionOne => to.write_str("edition 1"),
             Stream::EditionTwo => to.write_str("edition 2"),
             Stream::KindOne => to.write_str("kind 1"),
+            Stream::KindTwo => to.write_str("kind 2"),
             Stream::Files(format) => write!(to, "files {format}"),
         }
     }

@@ -72,12 +72,22 @@ fn edition_1_is_as_it_was_before_edition_2() {
     assert_eq!(digests(Stream::EditionOne, says_edition_2), before);
 }
 
+/// Does the image say edition 2 and one of these kinds?
+fn says_kind(image: &[u8], kinds: &[u32]) -> bool {
+    let trailer = TwoGridTrailer::read(image).filter(|it| it.edition == 2);
+    trailer.is_some_and(|it| kinds.contains(&it.kind))
+}
+
 #[test]
-fn edition_2_is_as_it_was_before_kind_1() {
-    let says_kind_1 = |image: &[u8]| {
-        let trailer = TwoGridTrailer::read(image);
-        trailer.is_some_and(|it| it.edition == 2 && it.kind == 1)
-    };
-    let before = (0x499B_5DC0_A3E1_D9EE, 0x3F34_07AD_D60B_358D);
-    assert_eq!(digests(Stream::EditionTwo, says_kind_1), before);
+fn edition_2_is_as_it_was_before_kinds_1_and_2() {
+    let before = (0x499B_5DC0_A3E1_D9EE, 0xE8A0_5D12_7154_4CCE);
+    let came_later = |image: &[u8]| says_kind(image, &[1, 2]);
+    assert_eq!(digests(Stream::EditionTwo, came_later), before);
+}
+
+#[test]
+fn kind_1_is_as_it_was_before_kind_2() {
+    let before = (0xCBCB_7877_0C31_0B77, 0xDAD3_1C25_C052_989F);
+    let came_later = |image: &[u8]| says_kind(image, &[2]);
+    assert_eq!(digests(Stream::KindOne, came_later), before);
 }

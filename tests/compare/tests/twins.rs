@@ -1,6 +1,7 @@
 //! An image of edition 1 and its twin of edition 2, with the heights on the correction grid, give
 //! the same wherever question 9 lets all nodes pass. An image of kind 0 and its twin of kind 1, with
-//! the correction nodes as dense ones too, give the same in the check and going back.
+//! the correction nodes as dense ones too, give the same in the check and going back. An image of
+//! kind 0 and the same bytes of kind 2 give the same but for 8, 10, 15 and 22.
 
 use compare::{Call, List, Outcome, Reference, Stream, Way};
 use reference::{
@@ -28,6 +29,7 @@ fn dense_twin(image: &[u8]) -> Option<Vec<u8>> {
         corrections,
         heights,
         dense: None,
+        unbounded: false,
     }) = open_image(image)
     else {
         return None;
@@ -40,6 +42,15 @@ fn dense_twin(image: &[u8]) -> Option<Vec<u8>> {
     let rest = write_two_grids(&nodes, &nodes_of(&heights), &trailer);
     let dense_trailer = DenseTrailer::over(corrections.geometry, &trailer);
     Some(write_dense(&nodes, &dense_trailer, &rest))
+}
+
+/// The same bytes of kind 2, if the image opens as kind 0.
+fn unbounded_twin(image: &[u8]) -> Option<Vec<u8>> {
+    let trailer = TwoGridTrailer::read(image).filter(|it| it.edition == 2 && it.kind == 0)?;
+    open_image(image).ok()?;
+    let trailer = TwoGridTrailer { kind: 2, ..trailer };
+    let nodes = &image[..image.len() - 80];
+    Some([nodes, &trailer.write()].concat())
 }
 
 /// All nodes of a grid.
@@ -91,4 +102,32 @@ fn dense_twins_give_the_same_in_the_check_and_going_back() {
         Call::List(list) => list.way == Way::Back,
         _ => true,
     });
+}
+
+/// The check gives the same unless 22; a fix gets the same unless 8, 10 or 15.
+#[test]
+fn unbounded_twins_give_the_same_where_kind_0_has_an_answer() {
+    let (mut checks, mut fixes, mut others) = (0, 0, 0);
+    for index in 0..20_000 {
+        let call = Stream::EditionTwo.call(3, index);
+        let Some(twin) = over_twin(&call, unbounded_twin) else {
+            continue;
+        };
+        let [one, other] = [&call, &twin].map(|it| it.perform(&Reference, 0));
+        if let (Call::List(_), 0) = (&call, one.number) {
+            let answers = one.written.chunks(5).zip(other.written.chunks(5));
+            for (answer, of_twin) in answers {
+                let is_put = [8, 10, 15].contains(&answer[4]);
+                assert!(is_put || answer == of_twin, "{call}");
+                (fixes, others) = (fixes + i32::from(!is_put), others + i32::from(is_put));
+            }
+        } else if other.number != 22 {
+            assert_eq!(one, other, "{call}");
+            checks += 1;
+        }
+    }
+    assert!(
+        checks > 1_000 && fixes > 5_000 && others > 5_000,
+        "{checks} {fixes} {others}"
+    );
 }

@@ -7,8 +7,9 @@ use crate::{ask, open_image, Grid, Image, Number};
 /// longitude.
 type Steps = [i128; 2];
 
-/// "After 1 to 6, question 9 over all nodes", then question 12, with a dense grid 21. "A pass reports A and B for
-/// latitude correction, longitude correction and height".
+/// "After 1 to 6, question 9 over all nodes", then question 12, under kind 2 22 before it, with a
+/// dense grid 21 after it. "A pass reports A and B for latitude correction, longitude correction and
+/// height".
 pub fn grid_check(bytes: &[u8]) -> Result<[i128; 6], Number> {
     let steps = match open_image(bytes)? {
         Image::OneGrid(nodes) => {
@@ -19,10 +20,13 @@ pub fn grid_check(bytes: &[u8]) -> Result<[i128; 6], Number> {
             corrections,
             heights,
             dense,
+            unbounded,
         } => {
             let dense = dense.as_ref();
             ask(all_nodes_fit(&corrections) && all_nodes_fit(&heights), 9)?;
             ask(dense.into_iter().all(all_nodes_fit), 9)?;
+            // "Refusal 22, in the check before 12: a border node has a correction other than zero."
+            ask(!unbounded || border_is_zero(&corrections), 22)?;
             // "The slope test uses each grid's own spacings."
             let [latitude, longitude] = allowed_steps(&corrections)?;
             let [height] = allowed_steps(&heights)?;
@@ -42,6 +46,12 @@ fn all_nodes_fit<const VALUES: usize>(grid: &Grid<VALUES>) -> bool {
     grid.geometry
         .node_places()
         .all(|(row, column)| grid.node_fits(&grid.node(row, column)))
+}
+
+/// Are both corrections 0 at every node of the first and last row and of the first and last column?
+fn border_is_zero(corrections: &Grid<2>) -> bool {
+    let mut border = corrections.geometry.border_places();
+    border.all(|(row, column)| corrections.node(row, column) == [0, 0])
 }
 
 /// A and B of each value, if question 12 allows them.

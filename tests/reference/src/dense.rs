@@ -40,12 +40,6 @@ impl Geometry {
         is_multiple(point.latitude - i128::from(self.south), p)
             && is_multiple(point.longitude - i128::from(self.west), q)
     }
-
-    /// Is the node one of the first or last row or column?
-    pub fn is_on_the_border(&self, row: i128, column: i128) -> bool {
-        [0, i128::from(self.rows) - 1].contains(&row)
-            || [0, i128::from(self.columns) - 1].contains(&column)
-    }
 }
 
 fn is_multiple(number: i128, of: i128) -> bool {
@@ -56,10 +50,7 @@ fn is_multiple(number: i128, of: i128) -> bool {
 /// corrections. All nodes have passed question 9.
 pub(crate) fn border_agrees(dense: &Grid<2>, parent: &Grid<2>) -> bool {
     let geometry = &dense.geometry;
-    let mut border = geometry
-        .node_places()
-        .filter(|(row, column)| geometry.is_on_the_border(*row, *column));
-    border.all(|(row, column)| {
+    geometry.border_places().all(|(row, column)| {
         let exact = parent.exact_values(geometry.node_point(row, column));
         let exact = exact.expect("nodes that pass question 9");
         differ_by_at_most_1(dense.node(row, column), exact)

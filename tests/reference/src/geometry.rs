@@ -70,6 +70,18 @@ impl Geometry {
         (0..rows).flat_map(move |row| (0..columns).map(move |column| (row.into(), column.into())))
     }
 
+    /// Is the node one of the first or last row or column?
+    pub fn is_on_the_border(&self, row: i128, column: i128) -> bool {
+        [0, i128::from(self.rows) - 1].contains(&row)
+            || [0, i128::from(self.columns) - 1].contains(&column)
+    }
+
+    /// The rows and columns of the nodes on the border.
+    pub(crate) fn border_places(&self) -> impl Iterator<Item = (i128, i128)> + '_ {
+        self.node_places()
+            .filter(|(row, column)| self.is_on_the_border(*row, *column))
+    }
+
     /// "P and Q the latitude and longitude spacing."
     pub fn spacings(&self) -> (i128, i128) {
         (self.latitude_spacing.into(), self.longitude_spacing.into())

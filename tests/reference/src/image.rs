@@ -10,11 +10,13 @@ pub enum Image<'a> {
     /// quasi-geoid height (i32, units)."
     OneGrid(Grid<'a, 3>),
     /// Edition 2: "correction nodes of 8 bytes, then height nodes of 4 bytes". Kind 1 has dense
-    /// nodes too.
+    /// nodes too. Kind 2, "laid out as kind 0", is unbounded: it has an answer for "fixes past the
+    /// edge" too.
     TwoGrids {
         corrections: Grid<'a, 2>,
         heights: Grid<'a, 1>,
         dense: Option<Grid<'a, 2>>,
+        unbounded: bool,
     },
 }
 
@@ -47,7 +49,7 @@ fn open_two_grids(bytes: &[u8]) -> Result<Image<'_>, Number> {
     // "Below 80 bytes is a 1, an unknown kind a 2."
     let trailer = TwoGridTrailer::read(bytes).ok_or(1)?;
     let dense = match trailer.kind {
-        0 => None,
+        0 | 2 => None,
         // "A length below 36 plus the correction nodes' back is a 1."
         1 => Some(DenseTrailer::read(bytes, &trailer).ok_or(1)?),
         _ => return Err(2),
@@ -75,6 +77,7 @@ fn open_two_grids(bytes: &[u8]) -> Result<Image<'_>, Number> {
         corrections,
         heights,
         dense,
+        unbounded: trailer.kind == 2,
     })
 }
 

@@ -1,5 +1,5 @@
-//! The independent reference: document 01, with notes 1, 2, 4 and 5 of document 02, said once more,
-//! over whole-number fractions.
+//! The independent reference: document 01, with notes 1, 2 and 4 to 6 of document 02, said once
+//! more, over whole-number fractions.
 //!
 //! It shares no code and no constants with `crates/`. It is meant to be read beside the papers,
 //! not to be fast. Every public function answers either its values or the papers' number.
@@ -46,7 +46,7 @@ pub use ways::{
     fix_questions, way_back, way_out, Answer, Fix, BACK_HEIGHT_LIMIT, OUT_HEIGHT_LIMIT,
 };
 
-/// The number of a question whose answer is no, 1 to 21.
+/// The number of a question whose answer is no, 1 to 22.
 pub type Number = i64;
 
 /// "An nd is 10^-9 degree": a whole degree in nd.

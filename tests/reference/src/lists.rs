@@ -40,15 +40,16 @@ pub fn convert_list(
 }
 
 /// "An answer is latitude, longitude, height, count, number (i64 too); accepted fixes have
-/// number 0, refused ones four zeros and their number."
+/// number 0, refused ones four zeros and their number." "Off the height grid the answer's height is
+/// 0 and its number 100".
 fn answer_numbers(answer: Result<Answer, Number>) -> [i64; 5] {
     match answer {
         Ok(answer) => [
             answer.point.latitude,
             answer.point.longitude,
-            answer.height,
+            answer.height.unwrap_or(0),
             answer.count,
-            0,
+            if answer.height.is_some() { 0 } else { 100 },
         ]
         .map(|number| i64::try_from(number).expect("an answer fits 64 bits")),
         Err(number) => [0, 0, 0, 0, number],

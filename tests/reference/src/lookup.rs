@@ -1,5 +1,5 @@
-//! What an image says of a point: its corrections and its height, with questions 9 and 15; and how
-//! near the stop rule wants two points to each other.
+//! What an image says of a point: whether questions 8 and 10 let it pass, its corrections and its
+//! height, with questions 9 and 15; and how near the stop rule wants two points to each other.
 
 use crate::{ask, Fraction, Geometry, Image, Number, Point};
 
@@ -20,15 +20,32 @@ impl Image<'_> {
         }
     }
 
-    /// Is the point in the bounds that questions 8 and 10 ask for?
+    /// Is the point in the bounds of the corrections?
     pub fn in_bounds(&self, point: Point) -> bool {
         self.correction_geometry().contains(point)
     }
 
-    /// The exact corrections at a point: 8 if it is not in the bounds; 9 if its cell has an unfit
-    /// node, in edition 1 also by its height, in edition 2 by its corrections alone.
+    /// "Under kind 2, laid out as kind 0, questions 8, 10 and 15 are no longer put".
+    pub fn is_unbounded(&self) -> bool {
+        match self {
+            Image::OneGrid(_) => false,
+            Image::TwoGrids { unbounded, .. } => *unbounded,
+        }
+    }
+
+    /// Do questions 8 and 10 let the point pass, where they are put?
+    pub fn reaches(&self, point: Point) -> bool {
+        self.is_unbounded() || self.in_bounds(point)
+    }
+
+    /// The exact corrections at a point: 8 if the image does not reach it; 9 if its cell has an
+    /// unfit node, in edition 1 also by its height, in edition 2 by its corrections alone.
     pub fn exact_corrections(&self, point: Point) -> Result<[Fraction; 2], Number> {
-        ask(self.in_bounds(point), 8)?;
+        ask(self.reaches(point), 8)?;
+        if !self.in_bounds(point) {
+            // "The correction is zero outside". No cell is used there.
+            return Ok([Fraction::new(0, 1); 2]);
+        }
         match self {
             Image::OneGrid(nodes) => {
                 let [latitude, longitude, _] = nodes.exact_values(point)?;
@@ -46,20 +63,23 @@ impl Image<'_> {
     }
 
     /// The exact quasi-geoid height at a point. In edition 1: 8 if it is not in the bounds, 9 if
-    /// its cell has an unfit node. In edition 2: 15, then 9.
-    pub fn exact_height(&self, point: Point) -> Result<Fraction, Number> {
+    /// its cell has an unfit node. In edition 2: 15, then 9; under kind 2 none where 15 would be.
+    pub fn exact_height(&self, point: Point) -> Result<Option<Fraction>, Number> {
         match self {
             Image::OneGrid(nodes) => {
                 ask(self.in_bounds(point), 8)?;
                 let [_, _, height] = nodes.exact_values(point)?;
-                Ok(height)
+                Ok(Some(height))
             }
             Image::TwoGrids { heights, .. } => {
-                // "Refusal 15 …: the Bessel point is off the height grid."
-                ask(heights.geometry.contains(point), 15)?;
+                if !heights.geometry.contains(point) {
+                    // "Refusal 15 …: the Bessel point is off the height grid."
+                    ask(self.is_unbounded(), 15)?;
+                    return Ok(None);
+                }
                 // "and, after 15, the height cell for heights."
                 let [height] = heights.exact_values(point)?;
-                Ok(height)
+                Ok(Some(height))
             }
         }
     }
@@ -78,8 +98,9 @@ impl Image<'_> {
         Ok(exact.map(Fraction::plus_half_rounded_down))
     }
 
-    /// The quasi-geoid height at a point, likewise.
-    pub fn height(&self, point: Point) -> Result<i128, Number> {
-        Ok(self.exact_height(point)?.plus_half_rounded_down())
+    /// The quasi-geoid height at a point, likewise, if it has one.
+    pub fn height(&self, point: Point) -> Result<Option<i128>, Number> {
+        let exact = self.exact_height(point)?;
+        Ok(exact.map(Fraction::plus_half_rounded_down))
     }
 }

@@ -54,7 +54,7 @@ impl Trailer {
 
 /// Edition 2: "a trailer of 80 bytes: correction geometry, height geometry (each like the old
 /// trailer's first 32 bytes), back to the correction nodes, back to the height nodes, kind (u32,
-/// only 0 for now), edition." Since note 5 also 1.
+/// only 0 for now), edition." Since note 5 also 1, since note 6 also 2.
 #[derive(Clone, Copy, Debug, PartialEq, Eq)]
 pub struct TwoGridTrailer {
     pub corrections: Geometry,

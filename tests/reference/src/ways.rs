@@ -14,11 +14,12 @@ pub struct Fix {
     pub height: i128,
 }
 
-/// "A single conversion answers either its values with the count, or the number alone."
+/// "A single conversion answers either its values with the count, or the number alone." Off the
+/// height grid of a kind 2 image its values have no height: "a single answer carries the same mark".
 #[derive(Clone, Copy, Debug, PartialEq, Eq)]
 pub struct Answer {
     pub point: Point,
-    pub height: i128,
+    pub height: Option<i128>,
     pub count: i128,
 }
 
@@ -29,8 +30,8 @@ pub fn fix_questions(image: &Image, fix: Fix, height_limit: i128) -> Result<(), 
     let angles_fit =
         within(fix.point.latitude, 90 * DEGREE) && within(fix.point.longitude, 180 * DEGREE);
     ask(angles_fit && within(fix.height, height_limit), 7)?;
-    // "8. Is the given point in the bounds, all four included? Else 8."
-    ask(image.in_bounds(fix.point), 8)
+    // "8. Is the given point in the bounds, all four included? Else 8." Not put under kind 2.
+    ask(image.reaches(fix.point), 8)
 }
 
 /// "Back, from Bessel point q and NAP height H: the ETRS89 point is q plus the corrections at q;
@@ -45,7 +46,7 @@ pub fn way_back(image: &Image, fix: Fix) -> Result<Answer, Number> {
             latitude: fix.point.latitude + latitude_correction,
             longitude: fix.point.longitude + longitude_correction,
         },
-        height: fix.height + quasi_geoid,
+        height: quasi_geoid.map(|it| fix.height + it),
         count: 1,
     })
 }
@@ -62,8 +63,8 @@ pub fn way_out(image: &Image, fix: Fix) -> Result<Answer, Number> {
             longitude: fix.point.longitude - longitude_correction,
         };
         // "10. Out: is each pk, k from 1, in the bounds? Else 10. This precedes the stop test
-        // for pk, and question 9 for its cell."
-        ask(image.in_bounds(next), 10)?;
+        // for pk, and question 9 for its cell." Not put under kind 2: pk may then lie anywhere.
+        ask(image.reaches(next), 10)?;
         // "The answer is the first pn, n from 1, whose two angles each differ from those of
         // p(n−1) by at most 1 nd", or 3 nd with a dense grid.
         let distance = image.stop_distance();
@@ -76,7 +77,7 @@ pub fn way_out(image: &Image, fix: Fix) -> Result<Answer, Number> {
             let quasi_geoid = image.height(next)?;
             return Ok(Answer {
                 point: next,
-                height: fix.height - quasi_geoid,
+                height: quasi_geoid.map(|it| fix.height - it),
                 count,
             });
         }

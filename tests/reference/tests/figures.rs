@@ -126,7 +126,7 @@ fn single_subtraction(image: &Image, fix: Fix) -> Result<Answer, Number> {
     };
     Ok(Answer {
         point,
-        height: fix.height - image.height(point)?,
+        height: image.height(point)?.map(|it| fix.height - it),
         count: 1,
     })
 }

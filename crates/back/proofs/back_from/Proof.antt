@@ -5,9 +5,11 @@ use mir.Syntax.{w64}
 use mir.Val.{toZ, ofZ}
 use mir.Facts.{toZ-ofZ}
 use Rattle.integers.specs.Machine.{reads-back}
+use Rattle.rules.specs.declared.Position.{Position}
 use Rattle.rules.specs.Answers.{values}
 use Rattle.rules.specs.Image.{Grid, gridOf}
-use Rattle.rules.specs.Ways.{Source, sourceOf, back}
+use Rattle.rules.specs.Lookup.{some}
+use Rattle.rules.specs.Ways.{Source, boundedSource, withHeight, back}
 use Rattle.rules.proofs.Cells.{point-within}
 use Rattle.lookup.specs.Held.{pointLookupOf}
 use Rattle.lookup.proofs.Found.{found-within}
@@ -25,7 +27,7 @@ abbrev grid : tie.Start → Grid
 grid s = gridOf (now (s .args .image)) (s .args .l)
 
 abbrev source : tie.Start → Source
-source s = sourceOf (grid s)
+source s = boundedSource (grid s)
 
 looked : (c : tie.After-look-up) → let s = start c in pointLookup (source s) (s .args .q) ≡ pointLookupOf (c .look-up .result)
 looked c = sym (c .look-up .ensures)
@@ -35,7 +37,7 @@ begun c = start (c .before .before)
 
 found : (c : tie.After-v) → let s = begun c in
     let v = c .v .given .0 .0 in
-    (source s .corrections (s .args .q) ≡ values (v .correction)) × (source s .height (s .args .q) ≡ values (v .height))
+    (source s .corrections (s .args .q) ≡ values (v .correction)) × (source s .height (s .args .q) ≡ values (some (v .height)))
 found c =
     let s = begun c in
     both-found (source s) (s .args .q) _ (looked (c .before .before) ∙ ap pointLookupOf (c .v .given .1))
@@ -61,7 +63,8 @@ returns c =
     let t = c .before in
     let v = t .before .before .before in
     let s = begun v in
-    rw (found v .0, found v .1) (ap values (rw (toZ-ofZ (s .fits .height), read t) at (c .added .ensures)))
+    rw (found v .0, found v .1)
+    (ap (λ (a : Position). values (withHeight a)) (rw (toZ-ofZ (s .fits .height), read t) at (c .added .ensures)))
 
 returns-2 : tie.Need-returns-2
 returns-2 c =

@@ -1,57 +1,22 @@
--- `border::plane_agrees` meets its contract: the values by line and node are those of the plane by row and column, or by column and row.
+-- `border::plane_agrees` meets its contract: the sides by line are those by row and column.
 use mathlib.Core.Bool.{true}
 use mathlib.Core.List.{List}
-use mathlib.Core.Path.{_≡_, sym, ap, _∙_}
+use mathlib.Core.Path.{_≡_, sym, _∙_}
 use Prim.Native.Nat.{ℕ}
-use native.Mathlib.Omega.{arith}
 use denote.Ref.{now}
 use Rattle.integers.specs.Booleans.{and-left, and-right, and-next, and-stop}
 use Rattle.rules.specs.declared.Geometry.{Geometry}
 use Rattle.rules.specs.declared.Plane.{Plane}
-use Rattle.rules.specs.Units.{longitudeLimit}
-use Rattle.rules.specs.Image.{i32At, plane}
-use Rattle.rules.specs.Limits.{AxisPasses, GeometryPasses, InImage}
+use Rattle.rules.specs.Image.{plane}
+use Rattle.rules.specs.Limits.{GeometryPasses}
 use Rattle.rules.specs.Dense.{axisAligned, question20}
 use Rattle.rules.specs.Check.{rowsAgree, columnsAgree, borderAgrees}
-use Rattle.steps.specs.Walk.{runValue}
 use Rattle.returning.specs.Sides.{sidesAgree, rows-agree, columns-agree}
-use Rattle.border.specs.Lines.{rowsOf, columnsOf, lineValue, linesAgree, LinesInside}
+use Rattle.border.specs.Lines.{rowsOf, columnsOf, linesAgree}
+use Rattle.border.proofs.PlaneLines.{row-value, column-value, rows-inside, columns-inside}
 use borrow.Author.Needs.{needs}
 use Rattle.border.proofs.plane_agrees.Statement.{statement}
 use Rattle.border.proofs.plane_agrees.Tie as tie
-
--- the values of a plane's lines
-module _ (b : List ℕ) (p : Plane) where
-  row-value : (row column : ℕ) → lineValue b (rowsOf p) row column ≡ plane b p row column
-  unfolding runValue plane
-  row-value row column = ap (i32At b) (omega arith)
-
-  column-value : (column row : ℕ) → lineValue b (columnsOf p) column row ≡ plane b p row column
-  unfolding runValue plane
-  column-value column row = ap (i32At b) (omega arith)
-
--- which lie in the image
-module _ {size : ℕ} {p : Plane} (o : InImage size p) where
-  latitude-passes : AxisPasses longitudeLimit (p .geometry .latitude)
-  latitude-passes =
-      let a = o .geometry .latitude in
-      record { sized = a .sized; start-within = omega (arith, a .start-within); far-within = omega (arith, a .far-within) }
-
-  rows-inside : LinesInside size (rowsOf p)
-  rows-inside =
-      record {
-        across = latitude-passes;
-        along = o .geometry .longitude;
-        bytes = λ row column h k. omega (arith, o .bytes row column h k);
-      }
-
-  columns-inside : LinesInside size (columnsOf p)
-  columns-inside =
-      record {
-        across = o .geometry .longitude;
-        along = latitude-passes;
-        bytes = λ column row h k. omega (arith, o .bytes row column k h);
-      }
 
 -- question 20 of each axis
 axes : (c d : Geometry) → question20 c d ≡ true

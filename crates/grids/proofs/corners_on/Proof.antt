@@ -1,12 +1,10 @@
 -- `grids::corners_on` meets its contract: both planes begin in the image, and the corners are read from the nodes of one of them.
-use mathlib.Core.Path.{_≡_, sym, subst, _∙_}
+use mathlib.Core.Path.{_∙_}
 use native.Mathlib.Omega.{arith}
 use denote.Ref.{now}
-use lib.ListN.{length}
-use Rattle.rules.specs.declared.Plane.{Plane}
 use Rattle.rules.specs.Image.{columns}
 use Rattle.rules.specs.Bilinear.{corners}
-use Rattle.nodes.specs.Either.{either, nodeValues, CellInside}
+use Rattle.nodes.specs.Either.{either, nodeValues}
 use Rattle.rules.proofs.Lent.{partFrom}
 use Rattle.nodes.proofs.Parts.{first-inside}
 use Rattle.grids.proofs.Chosen.{either-values, either-inside}

@@ -6,7 +6,7 @@ use borrow.Author.Tests.{not-true, not-false}
 use denote.Ref.{now}
 use Rattle.rules.specs.declared.Geometry.{Geometry}
 use Rattle.rules.specs.Units.{correctionLimit}
-use Rattle.rules.specs.Answers.{Outcome, values}
+use Rattle.rules.specs.Answers.{values}
 use Rattle.rules.specs.Image.{plane, gridOf}
 use Rattle.rules.specs.Lookup.{squarePasses}
 use Rattle.lookup.specs.Held.{spacingsOf, cellPlace}

@@ -1,12 +1,10 @@
 -- `grids::corrections_around` meets its contract: the corners of the point's cell on the grid that serves it, and its place in it.
-use mathlib.Core.Path.{_≡_, sym, ap, subst, _∙_}
+use mathlib.Core.Path.{_≡_, ap, _∙_}
 use denote.Ref.{now}
 use Rattle.rules.specs.declared.Geometry.{Geometry}
-use Rattle.rules.specs.declared.Point.{Point}
-use Rattle.rules.specs.Image.{plane, rows, columns}
+use Rattle.rules.specs.Image.{plane}
 use Rattle.rules.proofs.Cells.{on-latitude, on-longitude}
-use Rattle.lookup.specs.declared.CellPlace.{CellPlace}
-use Rattle.lookup.specs.Held.{Bounded, spacingsOf, cellPlace, zeros, heldCell, heldAt}
+use Rattle.lookup.specs.Held.{spacingsOf, cellPlace, zeros, heldCell, heldAt}
 use Rattle.lookup.proofs.Covering.{Serves, bounded-around, part-in}
 use Rattle.lookup.proofs.Places.{cell-inside}
 use Rattle.grids.specs.Grids.{latitudePlane, longitudePlane, squaresAt}

@@ -1,8 +1,6 @@
 -- `grids::corrections_at` meets its contract: each value's corners are what `corners_on` ensures of its two planes.
-use mathlib.Core.Path.{_≡_, sym, subst, _∙_}
+use mathlib.Core.Path.{_∙_}
 use denote.Ref.{now}
-use lib.ListN.{length}
-use Rattle.rules.specs.declared.Plane.{Plane}
 use Rattle.rules.specs.Image.{plane}
 use Rattle.rules.specs.Bilinear.{corners}
 use Rattle.nodes.specs.Either.{either}

@@ -1,10 +1,12 @@
 -- `grids::height_on` meets its contract: the corners of the height cell, and the value between them.
 use mathlib.Core.Path.{_≡_, sym, ap, _∙_}
 use denote.Ref.{now}
+use lib.IntN.{ℤ}
 use mir.Syntax.{w64}
 use Rattle.integers.specs.Machine.{told}
 use Rattle.rules.specs.Answers.{values, andThen}
 use Rattle.rules.specs.Image.{plane}
+use Rattle.rules.specs.Lookup.{some}
 use Rattle.grids.specs.Grids.{heightCell, heightCellOf, heightBetween, heightOn}
 use Rattle.grids.proofs.OnGrids.{heights-weighed, height-weighed}
 use borrow.Author.Needs.{needs}
@@ -31,14 +33,14 @@ height-between-requires c κs =
 -- the lookup is what is weighed between them
 weighed : (s : tie.Start) → let g = s .args .p .geometry in
     let f = plane (now (s .args .image)) (s .args .p) in
-    andThen (heightCell g f (s .args .q)) (λ h. values (heightBetween h)) ≡ heightOn g f (s .args .q)
+    andThen (heightCell g f (s .args .q)) (λ h. values (some (heightBetween h))) ≡ heightOn g f (s .args .q)
 weighed s = height-weighed _ _ _
 
 returns : tie.Need-returns
 returns c =
     let h = c .before .before in
     let s = start (h .before .before) in
-    rw (← weighed s, found h) (ap values (told w64 (c .height-between .ok) (c .height-between .ensures)))
+    rw (← weighed s, found h) (ap (λ (z : ℤ). values (some z)) (told w64 (c .height-between .ok) (c .height-between .ensures)))
 
 returns-2 : tie.Need-returns-2
 returns-2 c =

@@ -4,6 +4,8 @@ use denote.Ref.{now}
 use Rattle.rules.specs.Answers.{values}
 use Rattle.rules.specs.Image.{Grid, gridOf}
 use Rattle.rules.specs.Lookup.{gridFor}
+use Rattle.lookup.specs.declared.PointValues.{PointValues}
+use Rattle.lookup.specs.Held.{valuesFound}
 use Rattle.lookup.proofs.Covering.{serves}
 use Rattle.grids.specs.Grids.{correctionCellFor, correctionCellOf, heightCell, heightCellOf, gridsLookup}
 use Rattle.grids.proofs.OnGrids.{corrections-weighed, heights-weighed}
@@ -53,7 +55,8 @@ unfolding gridsLookup
 returns c =
     let h = c .before .before in
     let k = h .before .before in
-    rw (corrected (k .before .before), heights k ∙ ap heightCellOf (h .h .given .1)) (ap values (c .values-on .ensures))
+    rw (corrected (k .before .before), heights k ∙ ap heightCellOf (h .h .given .1))
+    (ap (λ (v : PointValues). values (valuesFound v)) (c .values-on .ensures))
 
 returns-2 : tie.Need-returns-2
 unfolding gridsLookup

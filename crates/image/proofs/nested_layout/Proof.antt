@@ -1,5 +1,5 @@
 -- `image::nested_layout` meets its contract: edition 2's layout, and by question 6 where the dense nodes begin.
-use mathlib.Core.Bool.{true}
+use mathlib.Core.Bool.{true, false}
 use mathlib.Core.Path.{_∙_}
 use Prim.Native.Nat.{_-_}
 use Rattle.rules.proofs.Opening.{backs-are, all-backs-are}
@@ -27,6 +27,7 @@ returns c =
     λ i. record {
       separate = true;
       nested = true;
+      unbounded = false;
       latitude = two i .latitude;
       longitude = two i .longitude;
       height = two i .height;

@@ -37,6 +37,7 @@ returns c =
     λ i. record {
       separate = false;
       nested = false;
+      unbounded = false;
       latitude = latitude i;
       longitude = longitude i;
       height = height i;

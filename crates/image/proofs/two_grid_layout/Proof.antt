@@ -20,7 +20,8 @@ sub-height c = backs-are _ _ (c .before .before .before .before .before .before 
 
 returns : tie.Need-returns
 returns c =
-    let o = c .before .before in
+    let h = c .before in
+    let o = h .before .before in
     let a = o .before in
     let s = a .before .before .before .before in
     let size = s .args .size in
@@ -28,10 +29,11 @@ returns c =
     let backs = backs-are (s .args .t) size (s .pre) in
     let latitude = a .plane-at .ensures ∙ (λ i. planeAt g (size - backs .0 .0 i) 8) in
     let longitude = o .plane-at2 .ensures ∙ (λ i. planeAt g (size - backs .0 .0 i + 4) 8) in
-    let height = c .plane-at3 .ensures ∙ (λ i. planeAt (s .args .t .heights .geometry) (size - backs .1 .0 i) 4) in
+    let height = h .plane-at3 .ensures ∙ (λ i. planeAt (s .args .t .heights .geometry) (size - backs .1 .0 i) 4) in
     λ i. record {
       separate = true;
       nested = false;
+      unbounded = c .is-unbounded .ensures i;
       latitude = latitude i;
       longitude = longitude i;
       height = height i;
@@ -47,5 +49,6 @@ two-grid-layout-spec =
     add-longitude
     (λ c κs. search needs)
     sub-height
+    (λ c κs. search needs)
     (λ c κs. search needs)
     returns)

@@ -1,5 +1,5 @@
 -- `lookup::cell_around` meets its contract: the corners of the point's cell, which `corners_around` reads, and the point's place in it.
-use mathlib.Core.Path.{_≡_, _∙_}
+use mathlib.Core.Path.{_∙_}
 use denote.Ref.{now}
 use Rattle.rules.specs.Image.{gridOf}
 use Rattle.lookup.specs.Held.{cellCorners, heldCell, heldAt}

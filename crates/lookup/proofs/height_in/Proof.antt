@@ -2,6 +2,7 @@
 use mathlib.Core.Bool.{true}
 use mathlib.Core.Path.{_≡_, sym, ap, subst, _∙_}
 use borrow.Author.Tests.{not-true, not-false}
+use lib.IntN.{ℤ}
 use mir.Syntax.{w64}
 use Rattle.integers.specs.Machine.{told}
 use Rattle.rules.specs.declared.Square.{Square}
@@ -10,6 +11,7 @@ use Rattle.rules.specs.Answers.{values}
 use Rattle.rules.specs.Limits.{CornersWithin}
 use Rattle.rules.proofs.Answers.{answered-yes, answered-no}
 use Rattle.lookup.specs.declared.PlaceInCell.{PlaceInCell}
+use Rattle.rules.specs.Lookup.{some}
 use Rattle.lookup.specs.Held.{InCellOf, valueIn, heightIn}
 use Rattle.lookup.proofs.Found.{passing, heights-within}
 use Rattle.lookup.proofs.Squares.{readBack, square-back}
@@ -36,10 +38,10 @@ place t = let s = start (passed t) in subst (InCellOf (s .args .h .spacings)) (s
 
 -- the value there is what the contract wants
 height-is : (t : tie.After-place-in) → let s = start (passed t) .args in
-    values (valueIn (s .h .corners .height) (s .h .spacings) (t .place-in .result)) ≡ heightIn (s .h) (s .bounds) (s .q)
+    values (some (valueIn (s .h .corners .height) (s .h .spacings) (t .place-in .result))) ≡ heightIn (s .h) (s .bounds) (s .q)
 height-is t =
     let s = start (passed t) .args in
-    ap (λ (at : PlaceInCell). values (valueIn (s .h .corners .height) (s .h .spacings) at)) (t .place-in .ensures)
+    ap (λ (at : PlaceInCell). values (some (valueIn (s .h .corners .height) (s .h .spacings) at))) (t .place-in .ensures)
     ∙ sym (answered-yes (s .h .passes) 9 _ (passes (passed t)))
 
 returns : tie.Need-returns
@@ -56,7 +58,8 @@ near-value-requires c κs =
 
 returns-2 : tie.Need-returns-2
 returns-2 c =
-    ap values (told w64 (c .near-value .ok) (c .near-value .ensures)) ∙ height-is (c .before .before .before .before .before .before)
+    let t = c .before .before .before .before .before .before in
+    ap (λ (z : ℤ). values (some z)) (told w64 (c .near-value .ok) (c .near-value .ensures)) ∙ height-is t
 
 -- the heights, as they are passed
 abbrev placed : tie.After-struct-told4 → tie.After-place-in
@@ -74,7 +77,7 @@ returns-3 c =
     let t = placed k in
     let s = start (passed t) .args in
     let z = c .weighed .ensures ∙ ap (λ (q : Square). valueIn q (s .h .spacings) (t .place-in .result)) (heights k) in
-    ap values (told w64 (c .weighed .ok) z) ∙ height-is t
+    ap (λ (z : ℤ). values (some z)) (told w64 (c .weighed .ok) z) ∙ height-is t
 
 pub height-in-spec : {M : Type 1} → statement M
 height-in-spec =

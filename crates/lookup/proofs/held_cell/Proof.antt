@@ -1,5 +1,4 @@
 -- `lookup::held_cell` meets its contract: the place is at most as far as the point, so each side's distance is a difference.
-use mathlib.Core.Path.{_≡_}
 use Prim.Native.Nat.{_-_}
 use borrow.Author.Needs.{needs}
 use Rattle.lookup.proofs.held_cell.Statement.{statement}

@@ -4,12 +4,13 @@ use mathlib.Core.Bool.{true}
 use mathlib.Core.Path.{_≡_, sym, ap, _∙_}
 use borrow.Author.Tests.{not-true, not-false}
 use denote.Ref.{now}
+use lib.IntN.{ℤ}
 use mir.Syntax.{w64}
 use Rattle.integers.specs.Machine.{told}
 use Rattle.rules.specs.Answers.{values}
 use Rattle.rules.specs.Image.{Grid, gridOf}
 use Rattle.rules.specs.Bilinear.{valueAt}
-use Rattle.rules.specs.Lookup.{question9, heightLookup}
+use Rattle.rules.specs.Lookup.{some, question9, heightLookup}
 use Rattle.rules.proofs.Answers.{answered-yes, answered-no}
 use Rattle.lookup.specs.declared.PointValues.{PointValues}
 use Rattle.lookup.specs.Held.{valueIn}
@@ -72,7 +73,7 @@ returns-2 c =
     let found = told w64 (c .value-between .ok) (c .value-between .ensures
     ∙ (λ i. valueIn (k .before .corners-around .result .height) (m .spacings-of .ensures i) (t .cell-of .result .at))
     ∙ ap (λ (v : PointValues). v .height) all ∙ (λ i. valueAt (sym same i) (g .height) p)) in
-    ap values found ∙ sym (answered-yes (question9 g p) 9 _ (sym (asked k) ∙ passes e))
+    ap (λ (z : ℤ). values (some z)) found ∙ sym (answered-yes (question9 g p) 9 _ (sym (asked k) ∙ passes e))
 
 pub look-up-node-height-spec : {M : Type 1} → statement M
 look-up-node-height-spec =

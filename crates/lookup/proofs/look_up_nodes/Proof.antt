@@ -7,7 +7,8 @@ use Rattle.rules.specs.Answers.{values}
 use Rattle.rules.specs.Image.{Grid, gridOf}
 use Rattle.rules.specs.Lookup.{question9}
 use Rattle.rules.proofs.Answers.{answered-yes, answered-no}
-use Rattle.lookup.specs.Held.{valuesIn, nodeLookup}
+use Rattle.lookup.specs.declared.PointValues.{PointValues}
+use Rattle.lookup.specs.Held.{valuesIn, valuesFound, nodeLookup}
 use Rattle.lookup.proofs.Covering.{bounded-around}
 use Rattle.lookup.proofs.Found.{node-asked, node-values}
 use Rattle.lookup.proofs.Places.{cell-inside, place-inside}
@@ -63,7 +64,8 @@ returns-2 c =
     let found = c .values-between .ensures
     ∙ (λ i. valuesIn (k .before .corners-around .result) (m .spacings-of .ensures i) (t .cell-of .result .at))
     ∙ node-values (grid s) (s .args .p) (s .pre .1) (t .cell-of .ensures) (k .before .corners-around .ensures) in
-    ap values found ∙ sym (answered-yes (question9 (grid s) (s .args .p)) 9 _ (sym (asked k) ∙ passes e))
+    ap (λ (v : PointValues). values (valuesFound v)) found
+    ∙ sym (answered-yes (question9 (grid s) (s .args .p)) 9 _ (sym (asked k) ∙ passes e))
 
 pub look-up-nodes-spec : {M : Type 1} → statement M
 look-up-nodes-spec =

@@ -7,7 +7,7 @@ use prog.Routine.{Routine}
 use prog.Wp.{Heap}
 use ghost.Atoms.{Atoms}
 use contract.Monad.{Fun}
-use Rattle.rules.specs.Limits.{OpenAround}
+use Rattle.rules.specs.Limits.{OpenFor}
 use Rattle.opened.specs.Over.{IsLookup}
 use Rattle.opened.proofs.Types.{Point, HeightLookup}
 use Rattle.opened.proofs.Over.{its-clauses}
@@ -22,12 +22,12 @@ use Rattle.opened.proofs.look_up_through.Code as code
 
 -- the contract: the covered function's, as it is
 same : {M : Type 1} (𝓤 : URA M) (H : Heap 𝓤) (A : Atoms 𝓤) (mem : Memory → SProp 𝓤) (run : Routine → Fun 𝓤)
-    → look-up-through.clauses 𝓤 H A mem run ≡ its-clauses 𝓤 H A Point HeightLookup OpenAround IsLookup
+    → look-up-through.clauses 𝓤 H A mem run ≡ its-clauses 𝓤 H A Point HeightLookup OpenFor IsLookup
 same 𝓤 H A mem run = refl
 
 pub look-up-through-spec : {M : Type 1} → stated.statement M
 unfolding code.routine
 look-up-through-spec 𝓤 H 𝓜 𝓖 𝓡 =
-    entered-through 𝓤 H 𝓜 𝓖 𝓡 code.env Point HeightLookup OpenAround IsLookup #opened·look-up-through #opened·look-up-in
+    entered-through 𝓤 H 𝓜 𝓖 𝓡 code.env Point HeightLookup OpenFor IsLookup #opened·look-up-through #opened·look-up-in
     (code.unfolded 𝓤 H 𝓜 𝓡) code.calls-opened·opened-image
     lower-def.routine code.calls-opened·look-up-in (lower-thm.met 𝓤 H 𝓜 𝓖 𝓡)

@@ -1,6 +1,5 @@
 -- `opened::way_out` meets its contract: questions 1 to 6, then the way out through the record that the layout found makes.
 use mathlib.Core.Path.{_≡_, sym, ap, _∙_}
-use native.Mathlib.Omega.{arith}
 use denote.Ref.{now}
 use mir.Syntax.{w64}
 use mir.Val.{toZ, ofZ}

@@ -5,25 +5,25 @@ use mir.Syntax.{w64}
 use mir.Val.{toZ, ofZ}
 use mir.Facts.{toZ-ofZ}
 use Rattle.integers.specs.Machine.{reads-back}
-use Rattle.rules.specs.Answers.{values, number, numberOf}
+use Rattle.rules.specs.declared.Position.{Position}
+use Rattle.rules.specs.Answers.{values}
 use Rattle.rules.specs.Image.{gridOf}
-use Rattle.rules.specs.Lookup.{heightLookupOf}
-use Rattle.rules.specs.Ways.{Source, sourceOf}
+use Rattle.rules.specs.Lookup.{some, heightLookupOf}
+use Rattle.rules.specs.Ways.{Source, boundedSource, withHeight, withoutHeight}
 use Rattle.source.proofs.Sources.{height-within}
 use borrow.Author.Needs.{needs}
 use Rattle.out.proofs.answer_at.Statement.{statement}
 use Rattle.out.proofs.answer_at.Tie as tie
 
 abbrev source : tie.Start → Source
-source s = sourceOf (gridOf (now (s .args .image)) (s .args .l))
+source s = boundedSource (gridOf (now (s .args .image)) (s .args .l))
 
 -- the height's lookup, in each arm
-found : (c : tie.After-z) → let s = c .before .before .before .before in source s .height (s .args .q) ≡ values (c .z .given .0 .0)
-found c = sym (c .before .before .height-at .ensures) ∙ ap heightLookupOf (c .z .given .1)
+looked : (c : tie.After-height-at) → let s = c .before .before in source s .height (s .args .q) ≡ heightLookupOf (c .height-at .result)
+looked c = sym (c .height-at .ensures)
 
-refused : (c : tie.After-r) → let s = c .before .before .before .before in
-    source s .height (s .args .q) ≡ number (numberOf (c .r .given .0 .0))
-refused c = sym (c .before .before .height-at .ensures) ∙ ap heightLookupOf (c .r .given .1)
+found : (c : tie.After-z) → let s = c .before .before .before .before in source s .height (s .args .q) ≡ values (some (c .z .given .0 .0))
+found c = looked (c .before .before) ∙ ap heightLookupOf (c .z .given .1)
 
 -- the height found is read back as it is
 read : (c : tie.After-known-told) → let z = c .before .z .given .0 .0 in toZ w64 (ofZ w64 z) ≡ z
@@ -42,12 +42,28 @@ returns : tie.Need-returns
 returns c =
     let t = c .before in
     let s = t .before .before .before .before .before in
-    rw (found (t .before)) (ap values (rw (toZ-ofZ (s .fits .height), read t) at (c .position-below .ensures)))
+    rw (found (t .before))
+    (ap (λ (a : Position). values (withHeight a)) (rw (toZ-ofZ (s .fits .height), read t) at (c .position-below .ensures)))
 
 returns-2 : tie.Need-returns-2
-returns-2 c = rw (refused (c .before))
+returns-2 c =
+    let t = c .before in
+    rw (looked (t .before .before) ∙ ap heightLookupOf (t .enum-told .given .1))
+    (ap (λ (a : Position). values (withoutHeight a)) (c .position-below2 .ensures))
+
+returns-3 : tie.Need-returns-3
+returns-3 c = let r = c .before in rw (looked (r .before .before) ∙ ap heightLookupOf (r .r .given .1))
 
 pub answer-at-spec : {M : Type 1} → statement M
 answer-at-spec =
     tie.close
-    (tie.spec height-at-requires (λ c. search needs) position-below-requires (λ c. search needs) returns returns-2)
+    (tie.spec
+    height-at-requires
+    (λ c. search needs)
+    position-below-requires
+    (λ c. search needs)
+    (λ c κs. search needs)
+    (λ c. search needs)
+    returns
+    returns-2
+    returns-3)

@@ -1,5 +1,4 @@
 -- `out::cell_for` meets its contract: a dense grid has its heights on a separate one, so where they are not, the grid is the coarse one.
-use mathlib.Core.Path.{_≡_, _∙_}
 use Rattle.out.proofs.Held.{coarse-alone}
 use borrow.Author.Needs.{needs}
 use Rattle.out.proofs.cell_for.Statement.{statement}

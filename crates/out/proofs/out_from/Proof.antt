@@ -1,12 +1,12 @@
 -- `out::out_from` meets its contract. The loop's invariant: the iteration from the start equals the iteration from here, and the cell
 -- held is the one around each point that lies in it and takes its corrections from its grid.
-use mathlib.Core.Bool.{Bool, true, Bool·beq}
+use mathlib.Core.Bool.{true, Bool·beq}
 use mathlib.Core.Logic.{⊎-elim}
 use mathlib.Core.Path.{_≡_, refl, sym, _∙_}
 use Prim.Native.Nat.{_+_, _-_, _≤_, _<_}
 use native.Mathlib.Omega.{arith}
 use borrow.Author.Needs.{needs}
-use borrow.Author.Tests.{not-true, not-false}
+use borrow.Author.Tests.{not-false}
 use denote.Ref.{now}
 use mir.Facts.{toZ-ofZ}
 use Rattle.integers.specs.Booleans.{and-left, and-right, beq-true}
@@ -17,11 +17,10 @@ use Rattle.rules.specs.Image.{Grid, gridOf}
 use Rattle.rules.specs.Limits.{OpenAround}
 use Rattle.rules.specs.Lookup.{inside, gridFor}
 use Rattle.rules.specs.Ways.{out}
-use Rattle.lookup.specs.Held.{heldAt, liesIn}
+use Rattle.lookup.specs.Held.{heldAt}
 use Rattle.lookup.proofs.Covering.{bounded-around, serves}
 use Rattle.lookup.proofs.Found.{cell-holds}
 use Rattle.grids.specs.Grids.{takenDense}
-use Rattle.source.specs.Asked.{HeldFor}
 use Rattle.turns.specs.declared.Turn.{Turn}
 use Rattle.turns.specs.Turn.{evaluationOf}
 use Rattle.turns.proofs.Turns.{onward, LeadsInside, from, one-turn, spent}

@@ -35,6 +35,8 @@ refusal-number-spec =
     (λ c. search needs)
     (λ c. search needs)
     (λ c. search needs)
+    (λ c. search needs)
+    (λ c. search arm)
     (λ c. search arm)
     (λ c. search arm)
     (λ c. search arm)

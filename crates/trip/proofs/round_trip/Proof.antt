@@ -26,11 +26,15 @@ unfolding trip
 refused c = rw (sym (c .before .before .grid-check .ensures) ∙ ap checkedOf (c .r .given .1))
 
 returns : tie.Need-returns
-returns c = (passed c, law.kept _ _ _ (c .out-and-back .result) (passed c))
+returns c =
+    let r = c .out-and-back .result in
+    (passed c, (law.kept _ _ _ r (passed c), law.kept-anywhere _ _ _ r (passed c)))
 
 returns-2 : tie.Need-returns-2
 returns-2 c =
-    (refused (c .before), law.kept _ _ _ (trip-answer.Refused (c .before .r .given .0 .0)) (refused (c .before)))
+    let e = refused (c .before) in
+    let r = trip-answer.Refused (c .before .r .given .0 .0) in
+    (e, (law.kept _ _ _ r e, law.kept-anywhere _ _ _ r e))
 
 pub round-trip-spec : {M : Type 1} → statement M
 round-trip-spec =

@@ -1,11 +1,11 @@
 -- `trip::taken_back` meets its contract: the way back takes the angles and the height as the way out answered them.
-use mathlib.Core.Path.{_≡_, sym, ap, _∙_}
+use mathlib.Core.Path.{_≡_, refl, sym, ap, _∙_}
 use denote.Ref.{now}
 use mir.Syntax.{w64}
 use Rattle.integers.specs.Machine.{reads-back}
 use Rattle.rules.specs.Ways.{wayBack, answerOf}
 use Rattle.rules.specs.Promise.{pointOf}
-use Rattle.rules.specs.Trip.{takenBack}
+use Rattle.trip.specs.Back.{sameNumber}
 use borrow.Author.Needs.{needs}
 use Rattle.trip.proofs.taken_back.Statement.{statement}
 use Rattle.trip.proofs.taken_back.Tie as tie
@@ -20,13 +20,18 @@ went c =
     c .convert .ensures ∙ (λ i. wayBack (now (s .image)) (record { latitude = latitude i; longitude = longitude i }) (height i))
 
 returns : tie.Need-returns
-unfolding takenBack
+unfolding sameNumber
 returns c = rw (sym (went (c .before .before .before)) ∙ ap answerOf (c .before .returned .given .1))
 
 returns-2 : tie.Need-returns-2
-unfolding takenBack
-returns-2 c = rw (sym (went (c .before .before .before)) ∙ ap answerOf (c .before .r .given .1))
+unfolding sameNumber
+returns-2 c = rw (sym (went (c .before .before .before)) ∙ ap answerOf (c .before .returned2 .given .1)) refl
+
+returns-3 : tie.Need-returns-3
+unfolding sameNumber
+returns-3 c = rw (sym (went (c .before .before .before)) ∙ ap answerOf (c .before .r .given .1))
 
 pub taken-back-spec : {M : Type 1} → statement M
 taken-back-spec =
-    tie.close (tie.spec (λ c κs. search needs) (λ c. search needs) (λ c. search needs) returns returns-2)
+    tie.close
+    (tie.spec (λ c κs. search needs) (λ c. search needs) (λ c. search needs) (λ c. search needs) returns returns-2 returns-3)

@@ -4,6 +4,7 @@ use mathlib.Core.Path.{_≡_, sym, _∙_}
 use borrow.Author.Tests.{not-true, not-false}
 use Rattle.rules.specs.Lookup.{inside}
 use Rattle.rules.proofs.Cells.{point-within}
+use Rattle.rules.proofs.Limits.{reached}
 use Rattle.turns.specs.Turn.{turnOf}
 use borrow.Author.Needs.{needs}
 use Rattle.turns.proofs.turn_to.Statement.{statement}
@@ -20,7 +21,7 @@ is-settled-requires : tie.Need-is-settled-requires
 is-settled-requires c κs = let s = c .before .before in
     let q = point-within (s .args .bounds) (s .args .q) (s .pre .geometry) (bounds c) in
     let r = point-within (s .args .bounds) (s .args .r) (s .pre .geometry) (s .pre .point) in
-    (q, r)
+    (reached q, reached r)
 
 returns-2 : tie.Need-returns-2
 unfolding turnOf

@@ -1,10 +1,14 @@
--- `verdicts::kind_passes` meets its contract: the kind is compared with the one that is known.
+-- `verdicts::kind_passes` meets its contract: the second test follows where the first has the answer no.
 use mathlib.Core.Path.{refl}
+use borrow.Author.Tests.{eq-eqb, ne-eqb}
 use Rattle.verdicts.proofs.kind_passes.Statement.{statement}
 use Rattle.verdicts.proofs.kind_passes.Tie as tie
 
 returns : tie.Need-returns
-returns c = refl
+returns c = rw (eq-eqb _ _ (c .if1 .taken)) refl
+
+returns-2 : tie.Need-returns-2
+returns-2 c = rw (ne-eqb _ _ (c .before .if1 .left)) refl
 
 pub kind-passes-spec : {M : Type 1} → statement M
-kind-passes-spec = tie.close (tie.spec returns)
+kind-passes-spec = tie.close (tie.spec returns returns-2)

@@ -1,6 +1,5 @@
 -- `ways::convert` meets its contract: questions 1 to 6, then the conversion over the opened image.
 use mathlib.Core.Path.{_≡_, sym, ap, _∙_}
-use native.Mathlib.Omega.{arith}
 use denote.Ref.{now}
 use mir.Facts.{toZ-ofZ}
 use Rattle.rules.specs.Answers.{values}

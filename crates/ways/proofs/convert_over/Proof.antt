@@ -1,91 +1,76 @@
--- `ways::convert_over` meets its contract: questions 7 and 8 as their tests answered, then the way that each arm is told.
+-- `ways::convert_over` meets its contract: with bounds their source is asked; without, the answer as with bounds is kind 2's too unless it
+-- ended past the edge.
 use mathlib.Core.Bool.{Bool, true}
-use mathlib.Core.Path.{_≡_, refl, sym, ap, _∙_}
-use Prim.Native.Nat.{_≤_}
-use lib.IntN.{natAbs}
+use mathlib.Core.Path.{_≡_, sym, ap, _∙_}
 use borrow.Author.Needs.{needs}
-use borrow.Author.Tests.{not-true, not-false}
 use denote.Ref.{now}
-use mir.Syntax.{w64}
-use mir.Val.{toZ, ofZ}
 use mir.Facts.{toZ-ofZ}
-use Rattle.rules.specs.declared.Position.{Position}
-use Rattle.rules.specs.declared.Way.{Way}
 use Rattle.rules.specs.Answers.{Outcome}
-use Rattle.rules.specs.Image.{gridOf}
-use Rattle.rules.specs.Lookup.{inside}
-use Rattle.rules.specs.Ways.{question7, heightLimit, wayOf, convertOver, sourceOf}
+use Rattle.rules.specs.Image.{Grid, gridOf}
+use Rattle.rules.specs.Ways.{Source, Accepted, question7, heightLimit, convertOver, boundedSource, answerOf}
 use Rattle.rules.proofs.Limits.{fix-within}
-use Rattle.rules.specs.Limits.{OpenAround}
+use Rattle.source.specs.Asked.{pastEdge}
+use Rattle.source.proofs.Sources.{of-bounded, of-unbounded}
+use Rattle.source.proofs.Inside.{same-conversion, past-limits}
 use Rattle.ways.proofs.convert_over.Statement.{statement}
 use Rattle.ways.proofs.convert_over.Tie as tie
 
--- the entry, from after the test of question 7, and from after that of 8
-abbrev start7 : tie.After-fix-passes → tie.Start
-start7 c = c .before .before .before
+abbrev start : tie.After-convert-bounded → tie.Start
+start c = c .before .before
 
-abbrev start8 : tie.After-in-bounds → tie.Start
-start8 c = start7 (c .before .before)
+abbrev grid : tie.Start → Grid
+grid s = gridOf (now (s .args .image)) (s .args .l)
 
-question7-is : (c : tie.After-fix-passes) (b : Bool) → c .fix-passes .result ≡ b →
-    let s = start7 c .args in question7 (heightLimit (s .way)) (s .p) (s .height) ≡ b
-question7-is c b e =
-    let s = start7 c in
-    sym (rw (toZ-ofZ (s .fits .height), c .before .height-limit .ensures) at (c .fix-passes .ensures)) ∙ e
+-- the conversion over a source
+abbrev over : tie.Start → Source → Outcome Accepted
+over s source = convertOver (s .args .way) source (s .args .p) (s .args .height)
 
-question7-yes : (c : tie.Else1) → let s = start7 (c .before) .args in question7 (heightLimit (s .way)) (s .p) (s .height) ≡ true
-question7-yes c = question7-is (c .before) _ (not-false _ (c .if1 .left))
+bounded : (c : tie.After-convert-bounded) → answerOf (c .convert-bounded .result) ≡ over (start c) (boundedSource (grid (start c)))
+bounded c = let s = start c in rw (toZ-ofZ (s .fits .height)) at (c .convert-bounded .ensures)
 
-question8-is : (c : tie.After-in-bounds) (b : Bool) → c .in-bounds .result ≡ b →
-    let s = start8 c .args in inside (s .l .latitude .geometry) (s .p) ≡ b
-question8-is c b e = sym (c .in-bounds .ensures) ∙ e
+-- whether it ended past the edge
+abbrev asked : tie.After-is-past-edge → tie.Start
+asked c = start (c .before .before)
 
-question8-yes : (c : tie.Else2) → let s = start8 (c .before) .args in inside (s .l .latitude .geometry) (s .p) ≡ true
-question8-yes c = question8-is (c .before) _ (not-false _ (c .if2 .left))
+past : (c : tie.After-is-past-edge) (b : Bool) → c .is-past-edge .result ≡ b →
+    pastEdge (over (asked c) (boundedSource (grid (asked c)))) ≡ b
+past c b e = ap pastEdge (sym (bounded (c .before .before))) ∙ sym (c .is-past-edge .ensures) ∙ e
 
--- what the call of an arm requires, where the arm is told that the way is w
-arm-requires : (c : tie.Else2) (w : Way) → let s = start8 (c .before) .args in s .way ≡ w →
-    OpenAround (now (s .image)) (s .l) (s .p)
-    × (natAbs (toZ w64 (ofZ w64 (s .height))) ≤ heightLimit w)
-arm-requires c w e =
-    let s = start8 (c .before) in
-    let limits = fix-within _ _ _ (question7-yes (c .before .before)) .1 in
-    (record { layout = s .pre; point = question8-yes c }, rw (toZ-ofZ (s .fits .height), ← e) limits)
+-- then question 7 has been put, and the way without bounds is asked
+seven : (c : tie.Then2) → let s = asked (c .before) .args in question7 (heightLimit (s .way)) (s .p) (s .height) ≡ true
+seven c =
+    let s = asked (c .before) in
+    let o = s .pre in
+    let u = c .before .before .if1 .taken in
+    past-limits (grid s) (o .apart u) (o .not-nested u) (s .args .way) (s .args .p) (s .args .height) (past (c .before) _ (c .if2 .taken))
 
--- and what its answer is
-answer-is : (c : tie.Else2) (w : Way) (a : Outcome Position) →
-    let s = start8 (c .before) .args in
-    let grid = sourceOf (gridOf (now (s .image)) (s .l)) in
-    s .way ≡ w → a ≡ wayOf w grid (s .p) (toZ w64 (ofZ w64 (s .height))) → a ≡ convertOver (s .way) grid (s .p) (s .height)
-unfolding convertOver
-answer-is c w a e h =
-    let s = start8 (c .before) in
-    let grid = sourceOf (gridOf (now (s .args .image)) (s .args .l)) in
-    rw (question7-yes (c .before .before), question8-yes c)
-    ((rw (toZ-ofZ (s .fits .height)) at h) ∙ ap (λ (v : Way). wayOf v grid (s .args .p) (s .args .height)) (sym e))
+convert-anywhere-requires : tie.Need-convert-anywhere-requires
+convert-anywhere-requires c κs =
+    let s = asked (c .before) in
+    let limits = fix-within _ _ _ (seven c) in
+    (record { layout = s .pre; unbounded = c .before .before .if1 .taken; point = limits .0 }, rw (toZ-ofZ (s .fits .height)) (limits .1))
 
 returns : tie.Need-returns
 unfolding convertOver
-returns c = rw (question7-is (c .before) _ (not-true _ (c .if1 .taken))) refl
-
-in-bounds-requires : tie.Need-in-bounds-requires
-in-bounds-requires c κs = c .before .before .before .before .pre .latitude .geometry
+returns c =
+    let t = c .before in
+    let s = asked (t .before) in
+    rw (of-unbounded (grid s) (t .before .before .if1 .taken), seven t) (rw (toZ-ofZ (s .fits .height)) at (c .convert-anywhere .ensures))
 
 returns-2 : tie.Need-returns-2
-unfolding convertOver
-returns-2 c = rw (question7-yes (c .before .before), question8-is (c .before) _ (not-true _ (c .if2 .taken))) refl
-
-out-from-requires : tie.Need-out-from-requires
-out-from-requires c κs = arm-requires (c .before .before) _ (c .enum-told .given .1)
-
-back-from-requires : tie.Need-back-from-requires
-back-from-requires c κs = arm-requires (c .before .before) _ (c .enum-told2 .given .1)
+returns-2 c =
+    let k = c .before in
+    let s = asked k in
+    let o = s .pre in
+    let u = k .before .if1 .taken in
+    let a = s .args in
+    let same = same-conversion (grid s) (o .apart u) (o .not-nested u) (a .way) (a .p) (a .height) (past k _ (c .if2 .left)) in
+    bounded (k .before .before) ∙ sym same ∙ ap (over s) (sym (of-unbounded (grid s) u))
 
 returns-3 : tie.Need-returns-3
-returns-3 c = answer-is (c .before .before .before) _ _ (c .before .enum-told .given .1) (c .out-from .ensures)
-
-returns-4 : tie.Need-returns-4
-returns-4 c = answer-is (c .before .before .before) _ _ (c .before .enum-told2 .given .1) (c .back-from .ensures)
+returns-3 c =
+    let k = c .before in
+    bounded k ∙ ap (over (start k)) (sym (of-bounded (grid (start k)) (c .if1 .left)))
 
 pub convert-over-spec : {M : Type 1} → statement M
 convert-over-spec =
@@ -93,12 +78,7 @@ convert-over-spec =
     (tie.spec
     (λ c κs. search needs)
     (λ c κs. search needs)
+    convert-anywhere-requires
     returns
-    in-bounds-requires
     returns-2
-    (λ c. search needs)
-    out-from-requires
-    (λ c. search needs)
-    back-from-requires
-    returns-3
-    returns-4)
+    returns-3)

@@ -23,6 +23,14 @@ impl<const VALUES: usize> Grid<VALUES> {
         random.below(self.nodes.len() as u64) as usize
     }
 
+    /// Puts values past their limits into some nodes, one of these numbers of them.
+    pub fn spoil_some(&mut self, random: &mut Random, numbers: &[usize]) {
+        for _ in 0..random.pick(numbers) {
+            let node = self.any_node(random);
+            self.spoil(random, node);
+        }
+    }
+
     /// Puts a value past its limit into one node.
     pub fn spoil(&mut self, random: &mut Random, node: usize) {
         let value = random.below(VALUES as u64) as usize;
@@ -131,10 +139,7 @@ fn table(random: &mut Random) -> Grid<3> {
         .map(|_| reaches.map(|reach| random.around_zero(reach) as i32))
         .collect();
     let mut grid = Grid::of_all(geometry, nodes);
-    for _ in 0..random.pick(&[0, 0, 1, 3]) {
-        let node = grid.any_node(random);
-        grid.spoil(random, node);
-    }
+    grid.spoil_some(random, &[0, 0, 1, 3]);
     grid
 }
 

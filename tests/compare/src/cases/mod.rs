@@ -1,6 +1,6 @@
 //! The made-up calls: each follows from a seed and an index alone. Here those of edition 1, with
-//! what edition 2's, in `two_grids`, those of its kind 1, in `three_grids`, and those over grid
-//! files, in `files`, share with them.
+//! what edition 2's, in `two_grids`, those of its kind 1, in `three_grids`, those of its kind 2, in
+//! `unbounded`, and those over grid files, in `files`, share with them.
 
 mod axis;
 mod damage;
@@ -13,6 +13,7 @@ mod notations;
 mod over_grids;
 pub mod three_grids;
 pub mod two_grids;
+pub mod unbounded;
 pub mod values;
 
 use crate::random::Random;

@@ -17,7 +17,7 @@ pub trait Grids {
     /// A fix of any kind for a way over the right image.
     fn any_fix(&self, random: &mut Random, way: Way, image: &Image) -> [i64; 3];
 
-    /// A fix somewhere in the correction grid.
+    /// A fix somewhere in the correction grid, or where the way out is likely to meet it.
     fn inner_fix(&self, random: &mut Random) -> [i64; 3];
 
     /// Makes one node unfit in a cell of one of the points.

@@ -145,7 +145,7 @@ fn sum_of_walks(
 }
 
 /// Values along a line: the same step all along, or any step up to it.
-fn walk(random: &mut Random, length: u32, step: i64, start: i64) -> Vec<i64> {
+pub fn walk(random: &mut Random, length: u32, step: i64, start: i64) -> Vec<i64> {
     let steady = random.chance(60).then(|| random.sign() * step);
     let mut value = start;
     (0..length)

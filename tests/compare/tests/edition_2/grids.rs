@@ -1,17 +1,17 @@
 //! The grids of edition 2's images: how they lie to each other, and what their heights are.
 
-use super::STREAM;
+use super::{LAID_OUT_ALIKE, STREAM};
 use crate::made_up::{
     for_each_point, furthest_apart, images, limits_of_checked, limits_of_nodes, rounding_case,
 };
 use compare::cases::values::NEAR;
-use compare::Way;
+use compare::{Stream, Way};
 use reference::{open_image, Geometry, Image};
 use std::collections::BTreeSet;
 
-/// The correction and the height geometry of all images that open as edition 2.
-fn geometries() -> impl Iterator<Item = (Geometry, Geometry)> {
-    images(STREAM).filter_map(|image| match open_image(&image) {
+/// The correction and the height geometry of all images of a stream that open as edition 2.
+fn geometries(stream: Stream) -> impl Iterator<Item = (Geometry, Geometry)> {
+    images(stream).filter_map(|image| match open_image(&image) {
         Ok(Image::TwoGrids {
             corrections,
             heights,
@@ -62,11 +62,13 @@ fn relations(corrections: &Geometry, heights: &Geometry) -> Vec<&'static str> {
 
 #[test]
 fn height_grids_lie_to_correction_grids_in_every_relation() {
-    let mut met = BTreeSet::new();
-    for (corrections, heights) in geometries() {
-        met.extend(relations(&corrections, &heights));
+    for stream in LAID_OUT_ALIKE {
+        let mut met = BTreeSet::new();
+        for (corrections, heights) in geometries(stream) {
+            met.extend(relations(&corrections, &heights));
+        }
+        assert_eq!(met.len(), 11, "{stream} {met:?}");
     }
-    assert_eq!(met.len(), 11, "{met:?}");
 }
 
 #[test]
@@ -75,7 +77,7 @@ fn every_case_of_the_rounding_occurs_for_heights_on_a_grid_of_their_own() {
     for_each_point(STREAM, Way::Back, |image, point| {
         let is_own = image.correction_geometry() != image.height_geometry();
         match image.exact_height(point) {
-            Ok(exact) if is_own => {
+            Ok(Some(exact)) if is_own => {
                 cases.insert((rounding_case(exact), exact.parts().1 % 2));
             }
             _ => {}
@@ -107,25 +109,29 @@ fn heights_lie_near_each_other_and_far_apart() {
 
 #[test]
 fn checked_height_grids_reach_the_limits_of_the_geometry_and_pass_with_steps() {
-    let met = limits_of_checked(STREAM, |image| *image.height_geometry());
-    assert_eq!(met.len(), 10, "{met:?}");
+    for stream in LAID_OUT_ALIKE {
+        let met = limits_of_checked(stream, |image| *image.height_geometry());
+        assert_eq!(met.len(), 10, "{stream} {met:?}");
+    }
 }
 
 #[test]
 fn nodes_stand_at_and_past_each_limit_in_each_grid() {
-    let mut met = BTreeSet::new();
-    for image in images(STREAM).filter(|image| image.len() < 2_000) {
-        let Ok(Image::TwoGrids {
-            corrections,
-            heights,
-            ..
-        }) = open_image(&image)
-        else {
-            continue;
-        };
-        let of = |grid, limits: Vec<_>| limits.into_iter().map(move |it| (grid, it));
-        met.extend(of("corrections", limits_of_nodes(&corrections)));
-        met.extend(of("heights", limits_of_nodes(&heights)));
+    for stream in LAID_OUT_ALIKE {
+        let mut met = BTreeSet::new();
+        for image in images(stream).filter(|image| image.len() < 2_000) {
+            let Ok(Image::TwoGrids {
+                corrections,
+                heights,
+                ..
+            }) = open_image(&image)
+            else {
+                continue;
+            };
+            let of = |grid, limits: Vec<_>| limits.into_iter().map(move |it| (grid, it));
+            met.extend(of("corrections", limits_of_nodes(&corrections)));
+            met.extend(of("heights", limits_of_nodes(&heights)));
+        }
+        assert_eq!(met.len(), 3 * 4, "{stream} {met:?}");
     }
-    assert_eq!(met.len(), 3 * 4, "{met:?}");
 }

@@ -1,23 +1,11 @@
 //! Question 21: how border nodes differ from the parent's exact value in images that pass and in
 //! those that do not, and the questions before it.
 
-use super::checked_images;
+use super::STREAM;
+use crate::made_up::{checked_images, place_of_node};
 use crate::nested::grids_of;
 use reference::{grid_check, open_image, Fraction, Grid, Number};
 use std::collections::BTreeSet;
-
-/// A node of the border: which of the first and last row and column it is in.
-fn place(dense: &Grid<2>, row: i128, column: i128) -> (&'static str, &'static str) {
-    let end = |at: i128, lines: u32, low, high| match at {
-        0 => low,
-        _ if at == i128::from(lines) - 1 => high,
-        _ => "",
-    };
-    (
-        end(row, dense.geometry.rows, "south", "north"),
-        end(column, dense.geometry.columns, "west", "east"),
-    )
-}
 
 /// A border node's correction, and the parent's exact one there.
 struct Beside {
@@ -60,7 +48,7 @@ fn border(coarse: &Grid<2>, dense: &Grid<2>) -> Vec<Beside> {
             let exact = exact.expect("nodes that pass question 9");
             let node = dense.node(row, column);
             [0, 1].map(|value| Beside {
-                place: place(dense, row, column),
+                place: place_of_node(&geometry, (row, column)),
                 value,
                 correction: node[value].into(),
                 exact: exact[value],
@@ -71,7 +59,7 @@ fn border(coarse: &Grid<2>, dense: &Grid<2>) -> Vec<Beside> {
 
 /// Does something for the border of each checked image that gets a number, 0 for a pass.
 fn for_each_border(wanted: Number, mut action: impl FnMut(&[Beside])) {
-    for image in checked_images().filter(|image| image.len() < 200_000) {
+    for image in checked_images(STREAM).filter(|image| image.len() < 200_000) {
         let number = grid_check(&image).err().unwrap_or(0);
         let grids = open_image(&image).ok().and_then(|it| grids_of(&it));
         if let Some((coarse, dense)) = grids.filter(|_| number == wanted) {

@@ -8,9 +8,9 @@ mod damage;
 mod grids;
 mod ways;
 
-use crate::made_up::{calls, images};
+use crate::made_up::images;
 use crate::nested::grids_of;
-use compare::{Call, Stream};
+use compare::Stream;
 use reference::{open_image, Grid, Image, Point};
 
 const STREAM: Stream = Stream::KindOne;
@@ -29,12 +29,4 @@ fn for_each_nested(mut action: impl FnMut(&Grid<2>, &Grid<2>)) {
             action(&coarse, &dense);
         }
     }
-}
-
-/// The images of the check's calls.
-fn checked_images() -> impl Iterator<Item = Vec<u8>> {
-    calls(STREAM).filter_map(|call| match call {
-        Call::GridCheck { image } => Some(image),
-        _ => None,
-    })
 }

@@ -1,9 +1,9 @@
 //! Points on and beside the dense bounds, and ways out that go across them.
 
 use super::{is_dense, STREAM};
-use crate::made_up::{fix, for_each_point, number_of, place_by_bounds};
+use crate::made_up::{changing_steps, fix, for_each_point, number_of, place_by_bounds, settled};
 use crate::nested::grids_of;
-use compare::{cell_of, points_until_the_stop, stop_rule_holds, Way};
+use compare::{cell_of, points_until_the_stop, Way};
 use reference::{way_back, way_out, Image, Number, Point};
 use std::collections::BTreeSet;
 
@@ -16,17 +16,6 @@ fn points_lie_on_and_beside_every_dense_bound_and_corner() {
         }
     });
     assert_eq!(places.len(), 16, "{places:?}");
-}
-
-/// The points until the stop, where the stop rule held.
-fn settled(image: &Image, given: Point) -> Option<Vec<Point>> {
-    let points = points_until_the_stop(image, given);
-    match points.as_slice() {
-        [.., before, last] if stop_rule_holds(image.stop_distance(), *before, *last) => {
-            Some(points)
-        }
-        _ => None,
-    }
 }
 
 #[test]
@@ -44,21 +33,7 @@ fn ways_out_end_on_and_beside_every_dense_bound() {
 /// At every step, and at the last step of every count, into the dense grid and out of it.
 #[test]
 fn ways_out_jump_across_the_border_at_every_count() {
-    let mut met = BTreeSet::new();
-    for_each_point(STREAM, Way::Out, |image, point| {
-        let Some(points) = settled(image, point) else {
-            return;
-        };
-        let count = points.len() - 1;
-        for step in 1..=count {
-            let sides = [points[step - 1], points[step]].map(|it| is_dense(image, it));
-            if let [Some(before), Some(after)] = sides {
-                if before != after {
-                    met.insert((step, step == count, after));
-                }
-            }
-        }
-    });
+    let met = changing_steps(STREAM, is_dense);
     // Before the last step: steps 1 to 4.
     assert_eq!(met.len(), 2 * (5 + 4), "{met:?}");
 }

@@ -1,6 +1,6 @@
 //! The made-up calls of a stream, and what can be said of their grids and points.
 
-use compare::{Call, Stream, Way};
+use compare::{points_until_the_stop, stop_rule_holds, Call, Stream, Way};
 use reference::{
     grid_check, open_image, Fix, Fraction, Geometry, Grid, Image, Number, Point, DEGREE,
 };
@@ -17,6 +17,14 @@ pub fn calls(stream: Stream) -> impl Iterator<Item = Call> {
 /// The images of all calls that take one.
 pub fn images(stream: Stream) -> impl Iterator<Item = Vec<u8>> {
     calls(stream).filter_map(|call| call.image().map(<[u8]>::to_vec))
+}
+
+/// The images of the check's calls.
+pub fn checked_images(stream: Stream) -> impl Iterator<Item = Vec<u8>> {
+    calls(stream).filter_map(|call| match call {
+        Call::GridCheck { image } => Some(image),
+        _ => None,
+    })
 }
 
 /// Does something for every point of the lists of one way over fit images.
@@ -67,6 +75,57 @@ pub fn place_by_bounds(geometry: &Geometry, point: Point) -> (&'static str, &'st
     )
 }
 
+/// Which of the first and last row and column a node is in.
+pub fn place_of_node(
+    geometry: &Geometry,
+    (row, column): (i128, i128),
+) -> (&'static str, &'static str) {
+    let end = |at: i128, lines: u32, low, high| match at {
+        0 => low,
+        _ if at == i128::from(lines) - 1 => high,
+        _ => "",
+    };
+    (
+        end(row, geometry.rows, "south", "north"),
+        end(column, geometry.columns, "west", "east"),
+    )
+}
+
+/// The points of the way out until the stop, where the stop rule held.
+pub fn settled(image: &Image, given: Point) -> Option<Vec<Point>> {
+    let points = points_until_the_stop(image, given);
+    match points.as_slice() {
+        [.., before, last] if stop_rule_holds(image.stop_distance(), *before, *last) => {
+            Some(points)
+        }
+        _ => None,
+    }
+}
+
+/// The steps of the ways out on which an answer to some question about their points changes: which
+/// step it is, whether it is the last one, and the answer after it.
+pub fn changing_steps(
+    stream: Stream,
+    is_so: impl Fn(&Image, Point) -> Option<bool>,
+) -> BTreeSet<(usize, bool, bool)> {
+    let mut met = BTreeSet::new();
+    for_each_point(stream, Way::Out, |image, point| {
+        let Some(points) = settled(image, point) else {
+            return;
+        };
+        let count = points.len() - 1;
+        for step in 1..=count {
+            let sides = [points[step - 1], points[step]].map(|it| is_so(image, it));
+            if let [Some(before), Some(after)] = sides {
+                if before != after {
+                    met.insert((step, step == count, after));
+                }
+            }
+        }
+    });
+    met
+}
+
 /// Which limits are met in the check's calls by the geometries that are picked, of nine; the tenth
 /// is a pass with all steps above 0.
 pub fn limits_of_checked(
@@ -74,10 +133,7 @@ pub fn limits_of_checked(
     pick: impl Fn(&Image) -> Geometry,
 ) -> BTreeSet<&'static str> {
     let mut met = BTreeSet::new();
-    for call in calls(stream) {
-        let Call::GridCheck { image } = call else {
-            continue;
-        };
+    for image in checked_images(stream) {
         let Ok(opened) = open_image(&image) else {
             continue;
         };

@@ -1,4 +1,4 @@
-//! Demand 3 as it stands, for images of edition 1 and of edition 2's kind 0.
+//! Demand 3 as it stands, for images of edition 1 and of edition 2's kinds 0 and 2.
 
 use crate::trips::{distance, fix_of, for_each_passing, height_within, out_and_back, point_inside};
 use compare::Stream;
@@ -35,7 +35,8 @@ fn try_back_and_out(image: &Image, bessel: Fix) {
     let back = way_back(image, bessel).expect("answered going back");
     let out = way_out(image, fix_of(back)).expect("taken out");
     assert!(distance(out.point, bessel.point) <= 2);
-    assert!(out.height.abs_diff(bessel.height) <= 1);
+    let height = out.height.expect("a height inside the margins");
+    assert!(height.abs_diff(bessel.height) <= 1);
 }
 
 /// Tries the promise on those of the stream's images that pass the check and are wanted, with
@@ -73,4 +74,10 @@ fn every_image_of_edition_2_that_passes_keeps_it_inside_both_grids() {
     try_images_of(Stream::EditionTwo, |image| {
         image.correction_geometry() != image.height_geometry()
     });
+}
+
+/// Kind 2 has other Bessel points outside of the bounds too.
+#[test]
+fn every_image_of_kind_2_that_passes_keeps_it_inside_both_grids() {
+    try_images_of(Stream::KindTwo, |image| image.is_unbounded());
 }

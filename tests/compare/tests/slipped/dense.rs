@@ -1,26 +1,9 @@
 //! The corrections and the stop rule of an image of kind 1 with a slip.
 
-use super::dense_slip::{DenseSlip, Side};
-use super::heights::nearest;
+use super::dense_slip::DenseSlip;
 use crate::nested::grids_of;
-use compare::{cell_of, stop_rule_holds};
-use reference::{Fraction, Geometry, Grid, Image, Number, Point};
-
-impl Side {
-    /// Is the point so far past this bound, and between the others?
-    fn is_past_by(self, geometry: &Geometry, point: Point, distance: i128) -> bool {
-        let past = match self {
-            Side::South => i128::from(geometry.south) - point.latitude,
-            Side::North => point.latitude - geometry.north(),
-            Side::West => i128::from(geometry.west) - point.longitude,
-            Side::East => point.longitude - geometry.east(),
-        };
-        let on_the_grid = nearest(geometry, point);
-        let off_latitude = on_the_grid.latitude != point.latitude;
-        let off_longitude = on_the_grid.longitude != point.longitude;
-        past == distance && usize::from(off_latitude) + usize::from(off_longitude) < 2
-    }
-}
+use compare::{cell_of, nearest_point, stop_rule_holds};
+use reference::{Fraction, Grid, Image, Number, Point};
 
 impl DenseSlip {
     /// The exact corrections at the last point of a way.
@@ -36,7 +19,7 @@ impl DenseSlip {
                 coarse.exact_values(here)
             }
             DenseSlip::DenseNodesBeside(side) if side.is_past_by(geometry, here, 1) => {
-                dense.exact_values(nearest(geometry, here))
+                dense.exact_values(nearest_point(geometry, here))
             }
             DenseSlip::LastDenseCellMissing if is_dense && here.latitude == geometry.north() => {
                 Err(9)
@@ -89,7 +72,7 @@ impl DenseSlip {
     pub fn is_next_in_bounds(self, image: &Image, fix: Point, next: Point) -> bool {
         let dense = grids_of(image).map(|(_, dense)| dense.geometry);
         let dense = dense.filter(|it| self == DenseSlip::DenseBoundsForTen && it.contains(fix));
-        dense.map_or(image.in_bounds(next), |it| it.contains(next))
+        dense.map_or(image.reaches(next), |it| it.contains(next))
     }
 }
 

@@ -1,6 +1,7 @@
 //! The grid check of an image of kind 1 with a slip, put together from checks of kind 0.
 
-use super::dense_slip::{DenseSlip, Side};
+use super::dense_slip::DenseSlip;
+use super::Side;
 use crate::nested::grids_of;
 use compare::{Converter, Reference};
 use reference::{
@@ -80,33 +81,20 @@ impl DenseSlip {
     /// Is the node at a row and column asked?
     fn asks(self, coarse: &Grid<2>, dense: &Grid<2>, (row, column): (i128, i128)) -> bool {
         let geometry = &dense.geometry;
-        let is_last = [
-            row == i128::from(geometry.rows) - 1,
-            column == i128::from(geometry.columns) - 1,
-        ];
-        let in_a_row = row == 0 || is_last[0];
-        let in_a_column = column == 0 || is_last[1];
-        let is_corner = in_a_row && in_a_column;
+        let sides = Side::of_node(geometry, (row, column));
+        let is_corner = sides.len() == 2;
         let is_coarse_node = {
             let (latitude, longitude) = coarse.geometry.places(geometry.node_point(row, column));
             let (p, q) = coarse.geometry.spacings();
             [0, p].contains(&latitude.part) && [0, q].contains(&longitude.part)
         };
-        let on_the_border = in_a_row || in_a_column;
+        let on_the_border = !sides.is_empty();
         match self {
             DenseSlip::TwentyOneNotAsked => false,
             DenseSlip::InnerNodesAsked => true,
             DenseSlip::CornersNotAsked => on_the_border && !is_corner,
             DenseSlip::CoarseNodesAlone => on_the_border && is_coarse_node,
-            DenseSlip::SideNotAsked(side) => {
-                let is_there = match side {
-                    Side::South => row == 0,
-                    Side::North => is_last[0],
-                    Side::West => column == 0,
-                    Side::East => is_last[1],
-                };
-                on_the_border && (is_corner || !is_there)
-            }
+            DenseSlip::SideNotAsked(side) => on_the_border && sides != [side],
             _ => on_the_border,
         }
     }

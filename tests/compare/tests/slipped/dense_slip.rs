@@ -1,17 +1,8 @@
 //! The slips that only an image of kind 1 shows.
 
-use super::Slip;
+use super::{Side, Slip};
 use crate::nested::Fault;
 use reference::Number;
-
-/// A side of the dense grid.
-#[derive(Clone, Copy, Debug, PartialEq, Eq)]
-pub enum Side {
-    South,
-    North,
-    West,
-    East,
-}
 
 /// The slips: of opening, of 20, of the lookup, of the stop rule, and of the check.
 #[derive(Clone, Copy, PartialEq, Eq)]

@@ -1,17 +1,18 @@
 //! The heights of an edition 2 image with a slip.
 
 use super::TwoGridSlip;
+use compare::nearest_point;
 use reference::{Fraction, Geometry, Image, Number, Place, Point};
 
 impl TwoGridSlip {
     /// The exact quasi-geoid height at a point, in an image of edition 2.
-    pub fn exact_height(self, image: &Image, point: Point) -> Result<Fraction, Number> {
+    pub fn exact_height(self, image: &Image, point: Point) -> Result<Option<Fraction>, Number> {
         let (corrections, heights) = (image.correction_geometry(), image.height_geometry());
         let is_on = heights.contains(point);
         match self {
             TwoGridSlip::FarHeightBoundsRefused if on_a_far_bound(heights, point) => Err(15),
             TwoGridSlip::HeightsByTheCorrectionLimit => with_the_correction_limit(image, point),
-            TwoGridSlip::NearestHeight => image.exact_height(nearest(heights, point)),
+            TwoGridSlip::NearestHeight => image.exact_height(nearest_point(heights, point)),
             TwoGridSlip::HeightsInTheCorrectionCell if is_on => {
                 image.exact_height(at_places(heights, corrections.places(point)))
             }
@@ -35,7 +36,7 @@ fn on_a_far_bound(geometry: &Geometry, point: Point) -> bool {
 }
 
 /// Question 9 with the corrections' limit in place of the heights'.
-fn with_the_correction_limit(image: &Image, point: Point) -> Result<Fraction, Number> {
+fn with_the_correction_limit(image: &Image, point: Point) -> Result<Option<Fraction>, Number> {
     match image {
         Image::TwoGrids {
             corrections,
@@ -45,18 +46,9 @@ fn with_the_correction_limit(image: &Image, point: Point) -> Result<Fraction, Nu
             let mut lenient = *heights;
             lenient.limits = [corrections.limits[0]];
             let [height] = lenient.exact_values(point)?;
-            Ok(height)
+            Ok(Some(height))
         }
         _ => image.exact_height(point),
-    }
-}
-
-/// The point of a grid that is nearest to a point.
-pub fn nearest(geometry: &Geometry, point: Point) -> Point {
-    let (south, west) = (geometry.south.into(), geometry.west.into());
-    Point {
-        latitude: point.latitude.clamp(south, geometry.north()),
-        longitude: point.longitude.clamp(west, geometry.east()),
     }
 }
 
@@ -69,5 +61,5 @@ fn at_places(geometry: &Geometry, (latitude, longitude): (Place, Place)) -> Poin
         latitude: along(geometry.south, latitude, p),
         longitude: along(geometry.west, longitude, q),
     };
-    nearest(geometry, point)
+    nearest_point(geometry, point)
 }

@@ -9,18 +9,24 @@ mod files;
 mod floats;
 mod heights;
 mod images;
+mod sides;
 mod slip;
 mod subgrid_slip;
 mod subgrids;
+mod unbounded;
+mod unbounded_check;
+mod unbounded_slip;
 mod ways;
 
 use compare::{Converter, FileRoom, Format, Reference, Way};
 use dense_images::lies_wrong;
-pub use dense_slip::{DenseSlip, Side};
+pub use dense_slip::DenseSlip;
 pub use file_slip::FileSlip;
 use reference::{convert_list, Axis, Notation, Number};
+pub use sides::Side;
 pub use slip::{Slip, TwoGridSlip};
 pub use subgrid_slip::SubgridSlip;
+pub use unbounded_slip::UnboundedSlip;
 
 pub struct Slipped(pub Slip);
 
@@ -38,6 +44,7 @@ impl Slipped {
         let (number, seen) = match self.0 {
             Slip::TwoGrids(slip) => (slip.number_seen(image), slip.image_seen(image)),
             Slip::Dense(slip) => (slip.number_seen(image), slip.image_seen(image)),
+            Slip::Unbounded(slip) => (slip.number_seen(image), slip.image_seen(image)),
             _ => (None, image.to_vec()),
         };
         number.map_or(Ok(seen), Err)
@@ -74,6 +81,7 @@ impl Converter for Slipped {
         let number = match self.0 {
             Slip::TwoGrids(slip) => slip.grid_check(&mut image, findings),
             Slip::Dense(slip) => slip.grid_check(&mut image, findings),
+            Slip::Unbounded(slip) => slip.grid_check(&mut image, findings),
             _ => Reference.grid_check(&mut image, findings),
         };
         if number == 0 && self.has(Slip::ConstantFindings) {
@@ -100,8 +108,12 @@ impl Converter for Slipped {
             Ok(values) => answers.copy_from_slice(&values),
             Err(number) => return number,
         }
-        if self.has(Slip::FirstAnswerCopied) {
-            (5..answers.len()).for_each(|index| answers[index] = answers[index - 5]);
+        match self.0 {
+            Slip::FirstAnswerCopied => {
+                (5..answers.len()).for_each(|index| answers[index] = answers[index - 5]);
+            }
+            Slip::Unbounded(slip) => slip.mark(fixes, answers),
+            _ => {}
         }
         0
     }

@@ -3,6 +3,7 @@
 use super::dense_slip::DenseSlip;
 use super::file_slip::FileSlip;
 use super::subgrid_slip::SubgridSlip;
+use super::unbounded_slip::UnboundedSlip;
 use compare::{Format, Stream};
 use reference::Number;
 
@@ -64,6 +65,8 @@ pub enum Slip {
     TwoGrids(TwoGridSlip),
     /// With a dense grid.
     Dense(DenseSlip),
+    /// Past the edge.
+    Unbounded(UnboundedSlip),
     /// In the conversion of a file.
     Files(FileSlip),
     /// In that of an NTv2 file that has a subgrid, or might have one.
@@ -79,6 +82,7 @@ impl Slip {
                 vec![Stream::EditionOne, Stream::EditionTwo]
             }
             Slip::Dense(_) => vec![Stream::KindOne],
+            Slip::Unbounded(slip) => vec![slip.stream()],
             Slip::Files(slip) => slip.formats().iter().map(|it| Stream::Files(*it)).collect(),
             Slip::Subgrid(_) => vec![Stream::Files(Format::Ntv2)],
             _ => vec![Stream::EditionOne],

@@ -1,6 +1,6 @@
 //! The two ways with a slip.
 
-use super::{Slip, Slipped, TwoGridSlip};
+use super::{Slip, Slipped, TwoGridSlip, UnboundedSlip};
 use compare::stop_rule_holds;
 use reference::{
     fix_questions, Answer, Fix, Fraction, Image, Number, Point, BACK_HEIGHT_LIMIT, OUT_HEIGHT_LIMIT,
@@ -13,9 +13,13 @@ impl Slipped {
             on_the_height_grid(image, fix.point)?;
         }
         let corrections = self.corrections(image, &[fix.point])?;
+        let quasi_geoid = self.height(image, fix, fix.point)?;
+        if quasi_geoid.is_none() && self.has(UnboundedSlip::FifteenGoingBack.into()) {
+            return Err(15);
+        }
         Ok(Answer {
-            point: moved(fix.point, corrections, 1),
-            height: fix.height + self.height(image, fix.point)?,
+            point: self.placed(moved(fix.point, corrections, 1)),
+            height: quasi_geoid.map(|it| fix.height + it),
             count: 1,
         })
     }
@@ -29,7 +33,7 @@ impl Slipped {
         let mut way = vec![fix.point];
         while way.len() <= evaluations {
             let here = way[way.len() - 1];
-            let next = moved(fix.point, self.corrections(image, &way)?, -1);
+            let next = self.placed(moved(fix.point, self.corrections(image, &way)?, -1));
             let stops = self.stops(image, here, next) || self.has(Slip::SingleSubtraction);
             let asked_later = stops && self.has(Slip::StopTestBeforeTheBounds);
             if !self.is_next_in_bounds(image, fix.point, next) && !asked_later {
@@ -45,6 +49,9 @@ impl Slipped {
 
     /// Questions 7 and 8.
     fn questions(&self, image: &Image, fix: Fix, height_limit: i128) -> Result<(), Number> {
+        if let Slip::Unbounded(slip) = self.0 {
+            return slip.questions(image, fix, height_limit);
+        }
         fix_questions(image, fix, height_limit)?;
         if self.has_two_grid(TwoGridSlip::BoundsOfBothGrids) {
             return on_the_height_grid(image, fix.point).map_err(|_| 8);
@@ -62,15 +69,15 @@ impl Slipped {
         } else {
             last
         };
-        let quasi_geoid = match self.height(image, height_at) {
-            Err(9) if self.has(Slip::LastCellNotAsked) => 0,
-            Err(8) if self.has(Slip::StopTestBeforeTheBounds) => 0,
+        let quasi_geoid = match self.height(image, fix, height_at) {
+            Err(9) if self.has(Slip::LastCellNotAsked) => Some(0),
+            Err(8) if self.has(Slip::StopTestBeforeTheBounds) => Some(0),
             height => height?,
         };
         let fabricated = self.has(Slip::FabricatedCount);
         Ok(Answer {
             point: last,
-            height: fix.height - quasi_geoid,
+            height: quasi_geoid.map(|it| fix.height - it),
             count: if fabricated { 2 } else { count as i128 },
         })
     }
@@ -101,6 +108,7 @@ impl Slipped {
         }
         let exact = match self.0 {
             Slip::Dense(slip) => slip.exact_corrections(image, way)?,
+            Slip::Unbounded(slip) => slip.exact_corrections(image, way)?,
             _ => image.exact_corrections(point)?,
         };
         Ok(exact.map(|it| self.rounded(it)))
@@ -109,6 +117,7 @@ impl Slipped {
     fn stops(&self, image: &Image, here: Point, next: Point) -> bool {
         match self.0 {
             Slip::Dense(slip) => slip.stops(image, here, next),
+            Slip::Unbounded(slip) => slip.stops(image, here, next),
             _ => stop_rule_holds(image.stop_distance(), here, next),
         }
     }
@@ -117,17 +126,28 @@ impl Slipped {
     fn is_next_in_bounds(&self, image: &Image, fix: Point, next: Point) -> bool {
         match self.0 {
             Slip::Dense(slip) => slip.is_next_in_bounds(image, fix, next),
-            _ => image.in_bounds(next),
+            Slip::Unbounded(slip) => slip.is_next_in_bounds(image, next),
+            _ => image.reaches(next),
         }
     }
 
-    fn height(&self, image: &Image, point: Point) -> Result<i128, Number> {
+    /// The quasi-geoid height at a point of the way from a fix.
+    fn height(&self, image: &Image, fix: Fix, point: Point) -> Result<Option<i128>, Number> {
         let exact = match self.0 {
             Slip::NorthernBound(number) if is_northern(image, point) => return Err(number),
             Slip::TwoGrids(slip) => slip.exact_height(image, point)?,
+            Slip::Unbounded(slip) => slip.exact_height(image, fix.point, point)?,
             _ => image.exact_height(point)?,
         };
-        Ok(self.rounded(exact))
+        Ok(exact.map(|it| self.rounded(it)))
+    }
+
+    /// A point of the way as the slip lets it be.
+    fn placed(&self, point: Point) -> Point {
+        match self.0 {
+            Slip::Unbounded(slip) => slip.placed(point),
+            _ => point,
+        }
     }
 
     fn rounded(&self, exact: Fraction) -> i128 {

@@ -14,7 +14,7 @@ pub fn answer(latitude: i64, longitude: i64, height: i64, count: i128) -> Result
     let fix = fix_at(latitude, longitude, height);
     Ok(Answer {
         point: fix.point,
-        height: fix.height,
+        height: Some(fix.height),
         count,
     })
 }

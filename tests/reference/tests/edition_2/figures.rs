@@ -37,7 +37,7 @@ fn corrections_and_angles_are_those_of_g() {
 fn the_exact_height_is_a_fraction_of_the_height_grids_spacings() {
     let image = small_image();
     let exact = open_image(&image).unwrap().exact_height(point_at(500, 500));
-    let (numerator, denominator) = exact.unwrap().parts();
+    let (numerator, denominator) = exact.unwrap().unwrap().parts();
     assert_eq!(denominator, 700 * 900);
     assert_eq!(numerator, 430_000 * 630_000 + 3 * 900 * 900 + 4 * 400 * 700);
 }

@@ -7,6 +7,8 @@ mod checks;
 #[path = "../common/mod.rs"]
 mod common;
 mod figures;
+#[path = "../heights/mod.rs"]
+mod heights;
 mod images;
 #[path = "../limits/mod.rs"]
 mod limits;

@@ -13,6 +13,7 @@ fn opened(image: &[u8]) -> (Grid<'_, 2>, Grid<'_, 1>) {
             corrections,
             heights,
             dense: None,
+            unbounded: false,
         }) => (corrections, heights),
         other => panic!("{other:?}"),
     }
@@ -125,7 +126,7 @@ fn question_1_asks_for_40_bytes_then_after_the_edition_for_80() {
 #[test]
 fn question_1_precedes_the_kind() {
     let image = image_with(&TwoGridTrailer {
-        kind: 2,
+        kind: 3,
         ..trailer()
     });
     let number = |length| open_image(&image[image.len() - length..]).err();
@@ -140,10 +141,11 @@ fn question_2_an_unknown_kind_precedes_question_3() {
             (trailer.corrections.rows, trailer.heights.rows) = (1, 1);
         })
     };
-    for kind in [2, 3, 256, 1 << 24, u32::MAX] {
+    for kind in [3, 4, 256, 258, 1 << 24, u32::MAX] {
         assert_eq!(number(kind), Some(2));
     }
     assert_eq!(number(0), Some(3));
+    assert_eq!(number(2), Some(3));
 }
 
 #[test]

@@ -154,6 +154,7 @@ fn on_one_geometry(grid: Grid<3>) -> TwoGrids {
     TwoGrids {
         corrections,
         heights,
+        kind: 0,
     }
 }
 
@@ -176,10 +177,7 @@ fn table(random: &mut Random) -> ThreeGrids {
     let geometry = dense_geometry(random, &geometry);
     let nodes = (0..geometry.nodes()).map(|_| scattered(random, [reaches[0], reaches[1]]));
     let mut dense = Grid::of_corrections(geometry, nodes.collect());
-    for _ in 0..random.pick(&[0, 0, 0, 1, 3]) {
-        let node = dense.any_node(random);
-        dense.spoil(random, node);
-    }
+    dense.spoil_some(random, &[0, 0, 0, 1, 3]);
     ThreeGrids { two, dense }
 }
 

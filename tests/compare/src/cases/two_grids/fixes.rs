@@ -11,6 +11,17 @@ use reference::{Geometry, Image};
 
 /// A fix of any kind.
 pub fn any_fix(random: &mut Random, way: Way, grids: &TwoGrids, image: &Image) -> [i64; 3] {
+    any_fix_by(random, way, grids, image, angle)
+}
+
+/// A fix with angles of some kind along the axes of both grids.
+pub fn any_fix_by(
+    random: &mut Random,
+    way: Way,
+    grids: &TwoGrids,
+    image: &Image,
+    angle: fn(&mut Random, [Axis; 2], i32) -> i64,
+) -> [i64; 3] {
     let corrections = &grids.corrections;
     let of_some_node = corrections.nodes[corrections.any_node(random)];
     let geometries = [&corrections.geometry, &grids.heights.geometry];

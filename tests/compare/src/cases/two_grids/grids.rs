@@ -10,16 +10,20 @@ use crate::random::Random;
 use crate::Way;
 use reference::{write_two_grids, Geometry, Image, Point, TwoGridTrailer};
 
-/// Two grids before they are written as an image.
+/// Two grids before they are written as an image of a kind that has no others.
 pub struct TwoGrids {
     pub corrections: Grid<2>,
     pub heights: Grid<1>,
+    pub kind: u32,
 }
 
 impl TwoGrids {
     /// The right trailer.
     pub fn trailer(&self) -> TwoGridTrailer {
-        TwoGridTrailer::over(self.corrections.geometry, self.heights.geometry)
+        TwoGridTrailer {
+            kind: self.kind,
+            ..TwoGridTrailer::over(self.corrections.geometry, self.heights.geometry)
+        }
     }
 
     /// The image with a trailer.
@@ -86,6 +90,7 @@ pub fn with_heights_of_their_own(random: &mut Random, grid: Grid<3>) -> TwoGrids
     TwoGrids {
         corrections,
         heights,
+        kind: 0,
     }
 }
 
@@ -113,5 +118,6 @@ pub fn largest_grids(random: &mut Random) -> TwoGrids {
     TwoGrids {
         corrections,
         heights,
+        kind: 0,
     }
 }

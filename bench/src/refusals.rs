@@ -1,0 +1,115 @@
+//! That the library and the i128 implementation refuse changed images of kinds 1 and 2 alike.
+
+use bench::grid::{self, Geometry, Grid};
+use bench::{library, plain, Edition, GridCheck, Implementation, Way};
+
+/// What is changed in an image, and the number that the check gives it then.
+type Change = (fn(&Grid) -> Vec<u8>, i64);
+
+/// Where the 36 bytes of the dense geometry begin.
+fn dense_trailer(grid: &Grid) -> usize {
+    8 * grid.dense.as_ref().map_or(0, Geometry::nodes)
+}
+
+/// The image with a number of 4 bytes raised by so much, at a place.
+fn raised(grid: &Grid, at: usize, by: i32) -> Vec<u8> {
+    let mut image = grid.image.clone();
+    let bytes = &mut image[at..at + 4];
+    let number = i32::from_le_bytes(bytes.try_into().expect("four bytes"));
+    bytes.copy_from_slice(&number.wrapping_add(by).to_le_bytes());
+    image
+}
+
+/// The node in the middle of the dense grid, or else of the corrections.
+fn middle_node(grid: &Grid) -> usize {
+    let first = grid.dense.as_ref().unwrap_or(&grid.corrections);
+    8 * (first.nodes() / 2)
+}
+
+/// Where the trailer begins.
+fn trailer(grid: &Grid) -> usize {
+    grid.image.len() - 80
+}
+
+/// The last node of the corrections, of a grid that is not dense.
+fn last_node(grid: &Grid) -> usize {
+    8 * (grid.corrections.nodes() - 1)
+}
+
+/// The eastern node in the middle of the rows, likewise.
+fn eastern_node(grid: &Grid) -> usize {
+    let Geometry { rows, columns, .. } = grid.corrections;
+    8 * ((rows / 2 + 1) * columns - 1) as usize
+}
+
+/// Those of kind 1.
+const WITH_DENSE: [Change; 19] = [
+    (|grid| grid.image.clone(), 0),
+    (|grid| grid.image[1..].to_vec(), 6),
+    (|grid| grid.image[dense_trailer(grid)..].to_vec(), 6),
+    (|grid| grid.image[dense_trailer(grid) + 1..].to_vec(), 1),
+    (|grid| raised(grid, grid.image.len() - 16, 1 << 30), 1),
+    (|grid| raised(grid, grid.image.len() - 8, 2), 2),
+    (|grid| raised(grid, dense_trailer(grid) + 24, 4_096), 3),
+    (|grid| raised(grid, dense_trailer(grid) + 20, -4_000_000), 4),
+    (|grid| raised(grid, dense_trailer(grid) + 4, 1_000), 5),
+    (|grid| raised(grid, dense_trailer(grid) + 32, 8), 6),
+    (|grid| raised(grid, dense_trailer(grid), 1), 20),
+    (|grid| raised(grid, dense_trailer(grid) + 8, -1), 20),
+    (|grid| raised(grid, dense_trailer(grid) + 16, 1), 20),
+    (|grid| raised(grid, dense_trailer(grid) + 20, 1), 20),
+    (|grid| raised(grid, middle_node(grid), 20_000_000), 9),
+    (|grid| raised(grid, middle_node(grid), 100_000), 12),
+    (|grid| raised(grid, 0, 2), 21),
+    (|grid| raised(grid, 4, -2), 21),
+    (|grid| raised(grid, dense_trailer(grid) - 8, -2), 21),
+];
+
+/// Those of kind 2.
+const UNBOUNDED: [Change; 16] = [
+    (|grid| grid.image.clone(), 0),
+    (|grid| grid.image[1..].to_vec(), 6),
+    (|grid| grid.image[trailer(grid)..].to_vec(), 6),
+    (|grid| grid.image[trailer(grid) + 1..].to_vec(), 1),
+    (|grid| raised(grid, trailer(grid) + 72, 1), 2),
+    (|grid| raised(grid, trailer(grid) + 24, 4_096), 3),
+    (|grid| raised(grid, trailer(grid) + 48, 100_000_000), 4),
+    (|grid| raised(grid, trailer(grid) + 4, 1_000), 5),
+    (|grid| raised(grid, trailer(grid) + 64, 8), 6),
+    (|grid| raised(grid, 0, 20_000_000), 9),
+    (|grid| raised(grid, trailer(grid) - 4, 20_000_000), 9),
+    (|grid| raised(grid, 0, 1), 22),
+    (|grid| raised(grid, last_node(grid) + 4, -1), 22),
+    (|grid| raised(grid, eastern_node(grid), 1), 22),
+    (|grid| raised(grid, eastern_node(grid) + 4, 1_000_000), 22),
+    (|grid| raised(grid, middle_node(grid), 100_000), 12),
+];
+
+/// Compares the checks and the lists of both over changed images of an edition, and how many they
+/// refused. A list is refused by the same number, unless it is one of the check alone.
+pub fn require(edition: Edition) -> usize {
+    let changes: &[Change] = match edition {
+        Edition::First | Edition::Second => &[],
+        Edition::SecondDense => &WITH_DENSE,
+        Edition::SecondUnbounded => &UNBOUNDED,
+    };
+    let grid = grid::national(edition, 21, 21);
+    for (change, wanted) in changes {
+        require_number(&change(&grid), *wanted);
+    }
+    changes.iter().filter(|(_, number)| *number != 0).count()
+}
+
+fn require_number(image: &[u8], wanted: i64) {
+    let checks: [GridCheck; 2] = [library::grid_check, plain::grid_check];
+    let numbers = checks.map(|grid_check| grid_check(image, &mut [0; 6]));
+    assert_eq!(numbers, [wanted; 2], "the checks differ");
+    let of_check_alone = [9, 12, 21, 22].contains(&wanted);
+    let of_image = if of_check_alone { 0 } else { wanted };
+    for way in [Way::Out, Way::Back] {
+        for implementation in [Implementation::Library, Implementation::Plain] {
+            let number = implementation.list(way, image, &[], &mut []);
+            assert_eq!(number, of_image, "{implementation:?} {way:?}");
+        }
+    }
+}

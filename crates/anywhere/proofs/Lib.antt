@@ -1,0 +1,2 @@
+-- Laws of kind 2's ways.
+pub mod Evaluations

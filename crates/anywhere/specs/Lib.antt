@@ -1,0 +1,2 @@
+-- What the contracts of kind 2's ways cite.
+pub mod Unbounded

@@ -1,0 +1,2 @@
+-- What the contracts of a trip cite.
+pub mod Back

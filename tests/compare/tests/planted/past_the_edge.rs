@@ -1,0 +1,67 @@
+//! The slips of kind 2, fixes past the edge.
+
+use crate::slipped::{Side, UnboundedSlip};
+
+slips_are_caught! {
+    kind_2_unknown_is_caught: UnboundedSlip::KindTwoUnknown;
+    kind_2_taken_for_kind_0_is_caught: UnboundedSlip::KindTwoTakenForZero;
+    kind_3_taken_for_kind_2_is_caught: UnboundedSlip::KindThreeTaken;
+    kind_cut_to_8_bits_is_caught: UnboundedSlip::KindCutTo8Bits;
+    kind_2_asked_for_36_bytes_is_caught: UnboundedSlip::ThirtySixBytesAsked;
+    zero_outside_of_kind_0_is_caught: UnboundedSlip::ZeroOutsideOfKindZero;
+    no_height_in_kind_0_is_caught: UnboundedSlip::NoHeightInKindZero;
+    number_22_for_kind_0_is_caught: UnboundedSlip::BorderOfKindZeroAsked;
+    question_8_put_is_caught: UnboundedSlip::QuestionPut(8);
+    question_10_put_is_caught: UnboundedSlip::QuestionPut(10);
+    question_15_put_is_caught: UnboundedSlip::QuestionPut(15);
+    question_15_put_going_back_is_caught: UnboundedSlip::FifteenGoingBack;
+    question_7_not_put_to_the_angles_is_caught: UnboundedSlip::AnglesNotAsked;
+    number_10_past_90_and_180_degrees_is_caught: UnboundedSlip::TenAtTheLimits;
+    points_cut_to_90_and_180_degrees_are_caught: UnboundedSlip::CutToTheLimits;
+    longitudes_turned_at_180_degrees_are_caught: UnboundedSlip::TurnedAt180;
+    stop_distance_0_past_the_edge_is_caught: UnboundedSlip::StopAt(0);
+    stop_distance_2_past_the_edge_is_caught: UnboundedSlip::StopAt(2);
+    stop_distance_3_past_the_edge_is_caught: UnboundedSlip::StopAt(3);
+    southern_bound_outside_is_caught: UnboundedSlip::OutsideOn(Side::South);
+    northern_bound_outside_is_caught: UnboundedSlip::OutsideOn(Side::North);
+    western_bound_outside_is_caught: UnboundedSlip::OutsideOn(Side::West);
+    eastern_bound_outside_is_caught: UnboundedSlip::OutsideOn(Side::East);
+    point_1_nd_to_the_south_inside_is_caught: UnboundedSlip::InsideBeside(Side::South);
+    point_1_nd_to_the_north_inside_is_caught: UnboundedSlip::InsideBeside(Side::North);
+    point_1_nd_to_the_west_inside_is_caught: UnboundedSlip::InsideBeside(Side::West);
+    point_1_nd_to_the_east_inside_is_caught: UnboundedSlip::InsideBeside(Side::East);
+    nearest_corrections_outside_are_caught: UnboundedSlip::NearestOutside;
+    zero_in_one_angle_alone_is_caught: UnboundedSlip::ZeroInOneAngle;
+    nearest_cell_asked_outside_is_caught: UnboundedSlip::NearestCellAsked;
+    corrections_kept_outside_are_caught: UnboundedSlip::CorrectionsKept;
+    southern_height_bound_off_is_caught: UnboundedSlip::OffOn(Side::South);
+    northern_height_bound_off_is_caught: UnboundedSlip::OffOn(Side::North);
+    western_height_bound_off_is_caught: UnboundedSlip::OffOn(Side::West);
+    eastern_height_bound_off_is_caught: UnboundedSlip::OffOn(Side::East);
+    height_1_nd_to_the_south_is_caught: UnboundedSlip::OnBeside(Side::South);
+    height_1_nd_to_the_north_is_caught: UnboundedSlip::OnBeside(Side::North);
+    height_1_nd_to_the_west_is_caught: UnboundedSlip::OnBeside(Side::West);
+    height_1_nd_to_the_east_is_caught: UnboundedSlip::OnBeside(Side::East);
+    nearest_height_in_place_of_none_is_caught: UnboundedSlip::NearestHeight;
+    nearest_height_cell_asked_is_caught: UnboundedSlip::NearestHeightCellAsked;
+    no_height_outside_the_corrections_is_caught: UnboundedSlip::NoHeightOutside;
+    height_grid_asked_at_the_fix_is_caught: UnboundedSlip::HeightByTheFix;
+    number_100_with_the_height_left_in_is_caught: UnboundedSlip::HeightLeftIn;
+    number_100_left_out_is_caught: UnboundedSlip::MarkLeftOut;
+    number_100_after_four_zeros_is_caught: UnboundedSlip::MarkAlone;
+    number_100_without_the_count_is_caught: UnboundedSlip::CountLeftOut;
+    number_22_not_asked_is_caught: UnboundedSlip::BorderNotAsked;
+    southern_row_not_asked_for_22_is_caught: UnboundedSlip::SideNotAsked(Side::South);
+    northern_row_not_asked_for_22_is_caught: UnboundedSlip::SideNotAsked(Side::North);
+    western_column_not_asked_for_22_is_caught: UnboundedSlip::SideNotAsked(Side::West);
+    eastern_column_not_asked_for_22_is_caught: UnboundedSlip::SideNotAsked(Side::East);
+    corners_not_asked_for_22_are_caught: UnboundedSlip::CornersNotAsked;
+    latitudes_not_asked_for_22_are_caught: UnboundedSlip::CorrectionNotAsked(0);
+    longitudes_not_asked_for_22_are_caught: UnboundedSlip::CorrectionNotAsked(1);
+    inner_nodes_asked_for_22_are_caught: UnboundedSlip::InnerNodesAsked;
+    corrections_of_1_nd_on_the_border_are_caught: UnboundedSlip::BorderWithin1;
+    border_of_the_heights_asked_for_22_is_caught: UnboundedSlip::HeightBorderAsked;
+    number_22_after_12_is_caught: UnboundedSlip::BorderAfterTwelve;
+    number_22_before_9_for_heights_is_caught: UnboundedSlip::BorderBeforeHeights;
+    number_22_before_9_is_caught: UnboundedSlip::BorderBeforeNine;
+}
