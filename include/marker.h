@@ -244,7 +244,7 @@ enum {
  * grow with the image, the list or the file. The seventh argument of marker_corrections_from_ntv2 is not counted: its caller puts it on
  * the stack before. */
 enum {
-    MARKER_CODE_BYTES = 28303,
+    MARKER_CODE_BYTES = 28312,
     MARKER_GRID_CHECK_STACK = 784,
     MARKER_LIST_OUT_STACK = 1768,
     MARKER_LIST_BACK_STACK = 1768,
@@ -281,10 +281,15 @@ int64_t marker_list_back(const uint8_t *image, size_t image_len, const int64_t *
  * answer is within these limits too and, taken back, is answered with each angle within 1 nd of the fix's. Both answers have a height or
  * neither; if they have, it returns exactly. Of such an image, other Bessel points in the bounds are all those within the limits of 7. */
 
-/* Reads the four parts of a notation as an angle in nd. `longitude` is true for longitudes, false for latitudes. Gives 0, or 13. */
+/* Reads the four parts of a notation as an angle in nd. `longitude` is true for longitudes, false for latitudes. Zero is read with either
+ * letter of the axis. Gives 0, or 13. */
 int64_t marker_read_notation(bool longitude, uint64_t degrees, uint64_t minutes, uint64_t hundred_thousandths, uint8_t letter, int64_t *nd);
 
-/* Writes an angle as a notation. `longitude` as above. Gives 0, or 13. */
+/* Writes an angle as a notation, rounded to hundred-thousandths of a second. `longitude` as above. The letter is that of the angle's sign,
+ * but what is written as zero, as 0 and -1 nd are, has N or E: no zero is written with S or W. Gives 0, or 13.
+ *
+ * A notation that is read and then written is the same again, save a zero with S or W, which becomes one with N or E. An angle that is
+ * written and then read is the same within 1 nd. */
 int64_t marker_write_notation(bool longitude, int64_t nd, uint64_t notation[MARKER_NOTATION_LENGTH]);
 
 /* Converts a VDatum file: every angle to the nearest nd and every height to the nearest unit, halves upward, from the float's exact

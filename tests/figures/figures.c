@@ -229,7 +229,11 @@ static void figures_of_notation(void) {
     tell("52,091,630,556 is written so again", writes(INT64_C(52091630556), 52, 5, 2987000, 'N'));
     tell("16,666,666 is 0 1 0.00000", writes(16666666, 0, 1, 0, 'N'));
     tell("16,666,665 is 0 0 59.99999", writes(16666665, 0, 0, 5999999, 'N'));
-    tell("-1 is 0 0 0.00000 S", writes(-1, 0, 0, 0, 'S'));
+    tell("-1 is 0 0 0.00000 N (02, note 7)", writes(-1, 0, 0, 0, 'N'));
+    tell("-2 is 0 0 0.00001 S", writes(-2, 0, 0, 1, 'S'));
+    nd = 7;
+    read = marker_read_notation(false, 0, 0, 0, 'S', &nd) == MARKER_DONE;
+    tell("0 0 0.00000 S is read as 0", read && nd == 0);
 }
 
 int main(void) {

@@ -2,3 +2,4 @@
 pub mod Parts
 pub mod Totals
 pub mod Return
+pub mod Formula

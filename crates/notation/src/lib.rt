@@ -5,10 +5,12 @@ use rules::Notation;
 use rules::Reading;
 use rules::Refusal;
 use rules::Writing;
-ghost use mathlib.Core.Bool.{cond};
+ghost use mathlib.Core.Bool.{cond, _&&_};
 ghost use mathlib.Core.Path.{_≡_};
 ghost use Prim.Native.Nat.{_*_, _^_, _≤_, _<_};
+ghost use lib.Dec.{ltb};
 ghost use lib.IntN.{pos};
+ghost use lib.Signed.{ltZ};
 ghost use Rattle.rules.specs.Units.{degrees};
 ghost use Rattle.rules.specs.Notation.{perDegree, total, axisLimit, positiveLetter, negativeLetter, magnitudeRead, totalWritten, split};
 ghost use Rattle.rules.specs.Notation.{readNotation, writeNotation, readingOf, writingOf};
@@ -44,7 +46,7 @@ pub fn read_notation(longitude: bool, n: Notation) -> Reading
     }
 }
 
-// The notation of an angle of an axis, or 13.
+// The notation of an angle of an axis, or 13. The total is rounded first; the letter follows from it, and it is split last.
 pub fn write_notation(longitude: bool, nd: i64) -> Writing
     ensures { λ r. ⌜ writingOf r ≡ writeNotation longitude nd ⌝ }
 {
@@ -52,8 +54,9 @@ pub fn write_notation(longitude: bool, nd: i64) -> Writing
     if axis_limit(longitude) * ND_PER_DEGREE < size {
         return Writing::Refused(Refusal::BadNotation);
     }
-    let letter = letter_of(longitude, nd < 0);
-    Writing::Written(notation_of(size, letter))
+    let t = total_written(size);
+    let letter = letter_of(longitude, is_written_below_zero(nd, t));
+    Writing::Written(notation_of(t, letter))
 }
 
 // Question 13 without its letter. Degrees above the limit are refused before they are multiplied.
@@ -115,7 +118,22 @@ fn letter_side(longitude: bool, letter: u8) -> Side
     }
 }
 
-// The letter of an angle on an axis, by whether the angle is below zero.
+// The total that is written of an angle's size in nd, in hundred-thousandths of a second: rounded, 18 × size / 50 plus one half.
+fn total_written(size: u64) -> u64
+    requires { ⌜ size ≤ degrees 180 ⌝ }
+    ensures { λ r. ⌜ r ≡ totalWritten (pos size) ⌝ }
+{
+    (18 * size + 25) / 50
+}
+
+// Is an angle written as one below zero? With a written total t of zero it is not, whatever its sign.
+fn is_written_below_zero(nd: i64, t: u64) -> bool
+    ensures { λ r. ⌜ r ≡ (ltb 0 t && ltZ nd (pos 0)) ⌝ }
+{
+    if 0 < t { nd < 0 } else { false }
+}
+
+// The letter of an angle on an axis, by whether it is written as one below zero.
 fn letter_of(longitude: bool, below: bool) -> u8
     ensures { λ r. ⌜ r ≡ cond below (negativeLetter longitude) (positiveLetter longitude) ⌝ }
 {
@@ -126,12 +144,10 @@ fn letter_of(longitude: bool, below: bool) -> u8
     }
 }
 
-// The notation of an angle's size in nd, with its letter. The total is rounded first, and then split.
-fn notation_of(size: u64, letter: u8) -> Notation
-    requires { ⌜ size ≤ degrees 180 ⌝ }
-    ensures { λ r. ⌜ r ≡ split (totalWritten (pos size)) letter ⌝ }
+// A total in hundred-thousandths of a second, split, with a letter.
+fn notation_of(t: u64, letter: u8) -> Notation
+    ensures { λ r. ⌜ r ≡ split t letter ⌝ }
 {
-    let t = (18 * size + 25) / 50;
     Notation {
         degrees: t / PER_DEGREE,
         minutes: t / PER_MINUTE % 60,

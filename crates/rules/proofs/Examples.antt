@@ -132,6 +132,15 @@ pub record Examples : Type 0 where
   -- always N or E written
   pub south-written : writeNotation false (negℤ (pos 25)) ≡ values (angle 0 0 9 83)
   pub west-written : writeNotation true (negℤ (pos 25)) ≡ values (angle 0 0 9 87)
+  -- zero written with S or W, as the sign of −1 would have it (document 02, note 7)
+  pub south-zero-written : writeNotation false (negℤ (pos 1)) ≡ values (angle 0 0 0 78)
+  pub west-zero-written : writeNotation true (negℤ (pos 1)) ≡ values (angle 0 0 0 69)
+  -- a total of 1, the least above zero, taken as zero
+  pub south-least-written : writeNotation false (negℤ (pos 2)) ≡ values (angle 0 0 1 83)
+  pub west-least-written : writeNotation true (negℤ (pos 2)) ≡ values (angle 0 0 1 87)
+  -- zero with S or W refused in reading
+  pub south-zero-read : readNotation false (angle 0 0 0 83) ≡ values (pos 0)
+  pub west-zero-read : readNotation true (angle 0 0 0 87) ≡ values (pos 0)
 
 pub examples : Order × Examples
 unfolding gridG roundHalfUp u64At i32At i64At trailerOf editionOf plane question3 question4 boundsWithin question5 backPasses question6
@@ -177,5 +186,11 @@ examples = (
     west-read = refl;
     south-written = refl;
     west-written = refl;
+    south-zero-written = refl;
+    west-zero-written = refl;
+    south-least-written = refl;
+    west-least-written = refl;
+    south-zero-read = refl;
+    west-zero-read = refl;
   },
 )

@@ -1,5 +1,5 @@
--- Document 01, "Degrees, minutes, seconds", with question 13. Letters are the bytes N 78, S 83, E 69, W 87. In every definition `longitude`
--- is the wanted axis: true for longitudes, false for latitudes.
+-- Document 01, "Degrees, minutes, seconds", with question 13, and document 02, note 7, on the letter of zero. Letters are the bytes N 78,
+-- S 83, E 69, W 87. In every definition `longitude` is the wanted axis: true for longitudes, false for latitudes.
 use mathlib.Core.Bool.{Bool, cond, _&&_, _||_}
 use mathlib.Core.List.{List, [], _∷_}
 use Prim.Native.Nat.{ℕ, _+_, _*_, _/_, _%_}
@@ -71,9 +71,9 @@ totalWritten z = (18 * natAbs z + 25) / 50
 unfoldable pub split : ℕ → ℕ → Notation
 split t letter = record { degrees = t / perDegree; minutes = t / perMinute % 60; fraction = t % perMinute; letter = letter }
 
--- The letter that is written follows the sign, zero counting as N or E.
+-- The letter that is written follows the sign, but a written total of zero, as that of −1 nd, is N or E (document 02, note 7).
 abbrev pub letterWritten : Bool → ℤ → ℕ
-letterWritten longitude z = cond (ltZ z (pos 0)) (negativeLetter longitude) (positiveLetter longitude)
+letterWritten longitude z = cond (ltb 0 (totalWritten z) && ltZ z (pos 0)) (negativeLetter longitude) (positiveLetter longitude)
 
 -- Writing an angle: 13 where it is beyond the axis's limit, or its notation.
 unfoldable pub writeNotation : Bool → ℤ → Outcome Notation

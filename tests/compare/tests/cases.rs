@@ -167,3 +167,25 @@ fn every_letter_is_read_for_both_axes_in_a_full_run() {
     }
     assert_eq!(letters.len(), 512);
 }
+
+/// Document 02's note 7: −1 nd, the only angle below zero whose written total is zero, and those
+/// beside it; and zero to read, with either letter.
+#[test]
+fn angles_around_zero_are_written_and_zeros_are_read_for_both_axes() {
+    let (mut written, mut read) = (BTreeSet::new(), BTreeSet::new());
+    for call in calls(STREAM) {
+        match call {
+            Call::WriteNotation { axis, nd } if (-2..=2).contains(&nd) => {
+                written.insert((axis == Axis::Longitude, nd));
+            }
+            Call::ReadNotation { axis, notation } => {
+                if reference::read_notation(axis, notation) == Ok(0) {
+                    read.insert(notation.letter);
+                }
+            }
+            _ => {}
+        }
+    }
+    assert_eq!(written.len(), 2 * 5, "{written:?}");
+    assert_eq!(read, BTreeSet::from(*b"NSEW"));
+}

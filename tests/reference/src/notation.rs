@@ -61,7 +61,8 @@ pub fn read_notation(axis: Axis, notation: Notation) -> Result<i64, Number> {
 }
 
 /// "Writing |nd| gives t as (18 × |nd| + 25) / 50 rounded down, then split; the letter follows
-/// the sign of the nd, zero counting as N or E."
+/// the sign of the nd, zero counting as N or E." Document 02, note 7: "A written total of zero
+/// shall be N or E."
 pub fn write_notation(axis: Axis, nd: i64) -> Result<Notation, Number> {
     let nd = i128::from(nd);
     // "In writing, the nd within those limits. Else 13."
@@ -73,6 +74,10 @@ pub fn write_notation(axis: Axis, nd: i64) -> Result<Notation, Number> {
         degrees: field(total / DEGREE_TOTAL),
         minutes: field(total % DEGREE_TOTAL / MINUTE_TOTAL),
         hundred_thousandths: field(total % MINUTE_TOTAL),
-        letter: if nd < 0 { negative } else { positive },
+        letter: if nd < 0 && total > 0 {
+            negative
+        } else {
+            positive
+        },
     })
 }

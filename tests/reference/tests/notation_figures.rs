@@ -1,4 +1,5 @@
-//! Every figure of document 01 on degree notation, each by name, and question 13's limits.
+//! Every figure of document 01 on degree notation, each by name, that of −1 as document 02's note 7
+//! changes it, and question 13's limits.
 
 use reference::{read_notation, write_notation, Axis, Notation};
 
@@ -36,16 +37,38 @@ fn starred_16666665_is_0_0_59_99999() {
 }
 
 #[test]
-fn minus_1_is_0_0_0_00000_south() {
+fn minus_1_is_0_0_0_00000_north() {
     let written = write_notation(Axis::Latitude, -1);
-    assert_eq!(written, Ok(notation(0, 0, 0, b'S')));
+    assert_eq!(written, Ok(notation(0, 0, 0, b'N')));
 }
 
 #[test]
-fn zero_counts_as_north_or_east() {
+fn a_written_total_of_zero_is_north_or_east() {
     let zero = |letter| Ok(notation(0, 0, 0, letter));
-    assert_eq!(write_notation(Axis::Latitude, 0), zero(b'N'));
-    assert_eq!(write_notation(Axis::Longitude, 0), zero(b'E'));
+    for nd in [-1, 0, 1] {
+        assert_eq!(write_notation(Axis::Latitude, nd), zero(b'N'));
+        assert_eq!(write_notation(Axis::Longitude, nd), zero(b'E'));
+    }
+}
+
+#[test]
+fn a_written_total_of_1_follows_the_sign() {
+    let one = |letter| Ok(notation(0, 0, 1, letter));
+    for size in 2..=4 {
+        assert_eq!(write_notation(Axis::Latitude, size), one(b'N'));
+        assert_eq!(write_notation(Axis::Latitude, -size), one(b'S'));
+        assert_eq!(write_notation(Axis::Longitude, size), one(b'E'));
+        assert_eq!(write_notation(Axis::Longitude, -size), one(b'W'));
+    }
+}
+
+#[test]
+fn zero_with_any_letter_of_the_axis_is_read() {
+    for (axis, letters) in [(Axis::Latitude, b"NS"), (Axis::Longitude, b"EW")] {
+        for letter in letters {
+            assert_eq!(read_notation(axis, notation(0, 0, 0, *letter)), Ok(0));
+        }
+    }
 }
 
 #[test]

@@ -1,20 +1,19 @@
 -- `notation::read_notation` meets its contract: the rule in the parts that the code tests, each equal to a call's result.
 use mathlib.Core.Bool.{true}
 use mathlib.Core.Path.{_≡_, sym, ap, _∙_}
-use Prim.Native.Nat.{ℕ, _*_, _≤_}
+use Prim.Native.Nat.{ℕ, _*_, _^_, _≤_, _<_}
 use native.Mathlib.Omega.{arith}
-use lib.IntN.{pos, negℤ, +ℤ-idl}
+use lib.IntN.{pos}
 use mir.Syntax.{w64}
-use mir.Val.{toZ, ofZ}
-use mir.Facts.{toZ-ofZ}
+use mir.Val.{toZ, ofZ, hbits}
 use borrow.Author.Needs.{needs}
 use borrow.Author.Tests.{not-true, not-false}
-use Rattle.integers.specs.Difference.{lit, _⊖_}
-use Rattle.integers.specs.Machine.{zarith, range, read-result, told}
+use Rattle.integers.specs.Machine.{told, minus-fits, minus-back}
 use Rattle.rules.specs.Answers.{values}
 use Rattle.rules.specs.Notation.{perDegree, total, magnitudeRead, readNotation}
 use Rattle.notation.specs.declared.Side.{Side}
-use Rattle.notation.specs.Parts.{amountsFit, angleOn, amounts, axis-most, read-in-parts}
+use Rattle.notation.specs.Parts.{amountsFit, sideOf, angleOn, amounts, axis-most, read-in-parts}
+use Rattle.notation.specs.Totals.{read-most}
 use Rattle.notation.proofs.read_notation.Statement.{statement}
 use Rattle.notation.proofs.read_notation.Tie as tie
 
@@ -41,16 +40,18 @@ size-is : (c : tie.After-size-of) → let s = c .before .before .before .before 
     toZ w64 (ofZ w64 (c .size-of .result)) ≡ pos (magnitudeRead (total (s .n)))
 size-is c = told w64 (c .size-of .ok) (c .size-of .ensures) ∙ ap (λ (t : ℕ). pos (magnitudeRead t)) (c .before .total-of .ensures)
 
-sub-t11 : tie.Need-sub-t11
-sub-t11 c =
-    let s = c .before .before .before .size-of in
-    omega (zarith, lit 0 ⊖ read-result w64 (s .result) (s .ok), range {w = w64} {z = s .result} (record { sfits = s .ok }), s .ensures)
+-- it is far below 2^63, so that its negative fits too
+size-small : (c : tie.After-size-of) → magnitudeRead (total (c .before .before .before .before .args .n)) < 2 ^ hbits w64
+size-small c = omega (arith, read-most 180 _ (small-total (c .before .before)))
 
 -- the rule's angle, on the side that an arm is told
 on-side : (c : tie.After-letter-side) (side : Side) → c .letter-side .result ≡ side →
     let s = c .before .before .before .before .before .args in
     readNotation (s .longitude) (s .n) ≡ angleOn side (magnitudeRead (total (s .n)))
-on-side c side e = rw (read-in-parts, fit (c .before .before .before), sym (c .letter-side .ensures) ∙ e)
+on-side c side e =
+    let s = c .before .before .before .before .before .args in
+    let told-side : sideOf (s .longitude) (s .n .letter) ≡ side = sym (c .letter-side .ensures) ∙ e in
+    rw (read-in-parts, fit (c .before .before .before), told-side)
 
 returns-2 : tie.Need-returns-2
 returns-2 c =
@@ -60,7 +61,7 @@ returns-2 c =
 returns-3 : tie.Need-returns-3
 returns-3 c =
     let l = c .before .before in
-    ap values (toZ-ofZ (sub-t11 c) ∙ +ℤ-idl _ ∙ ap negℤ (size-is (l .before))) ∙ sym (on-side l _ (c .enum-told2 .given .1))
+    ap values (minus-back w64 (size-is (l .before)) (size-small (l .before))) ∙ sym (on-side l _ (c .enum-told2 .given .1))
 
 returns-4 : tie.Need-returns-4
 returns-4 c = sym (on-side (c .before .before) _ (c .enum-told3 .given .1))
@@ -76,7 +77,7 @@ read-notation-spec =
     (λ c κs. search needs)
     (λ c. search needs)
     (λ c. search needs)
-    sub-t11
+    (λ c. let s = c .before .before .before in minus-fits w64 (size-is s) (size-small s))
     (λ c. search needs)
     returns-2
     returns-3

@@ -15,12 +15,20 @@ use Rattle.notation.proofs.write_notation.Tie as tie
 size-is : (c : tie.After-magnitude) → c .magnitude .result ≡ natAbs (c .before .args .nd)
 size-is c = rw (toZ-ofZ (c .before .fits .nd)) at (c .magnitude .ensures)
 
--- the entry, from where the letter is known
-abbrev start : tie.After-letter-of → tie.Start
+-- the entry, from where the total is known
+abbrev start : tie.After-total-written → tie.Start
 start c = c .before .before .before .before
 
-letter-is : (c : tie.After-letter-of) → let s = start c .args in c .letter-of .result ≡ letterWritten (s .longitude) (s .nd)
-letter-is c = rw (toZ-ofZ (start c .fits .nd)) at (c .letter-of .ensures)
+total-is : (c : tie.After-total-written) → c .total-written .result ≡ totalWritten (start c .args .nd)
+unfolding totalWritten
+total-is c = omega (arith, c .total-written .ensures, size-is (c .before .before .before))
+
+letter-is : (c : tie.After-letter-of) → let s = start (c .before .before) .args in
+    c .letter-of .result ≡ letterWritten (s .longitude) (s .nd)
+letter-is c =
+    let b = c .before in
+    let t = b .before in
+    cc (c .letter-of .ensures, b .is-written-below-zero .ensures, toZ-ofZ (start t .fits .nd), total-is t)
 
 mul-if1 : tie.Need-mul-if1
 mul-if1 c = omega (arith, axis-most (c .before .before .args .longitude))
@@ -32,17 +40,18 @@ returns c =
     let k : within (degrees (axisLimit (s .longitude))) (s .nd) ≡ false = omega (arith, lt-leb, size-is (c .before .before)) in
     rw k
 
-notation-of-requires : tie.Need-notation-of-requires
-notation-of-requires c κs = omega (arith, axis-most (start c .args .longitude))
+total-written-requires : tie.Need-total-written-requires
+total-written-requires c κs = omega (arith, axis-most (c .before .before .before .args .longitude))
 
 returns-2 : tie.Need-returns-2
-unfolding writeNotation totalWritten
+unfolding writeNotation
 returns-2 c =
     let l = c .before in
-    let s = start l .args in
-    let z = size-is (l .before .before .before) in
+    let t = l .before .before in
+    let s = start t .args in
+    let z = size-is (t .before .before .before) in
     let k : within (degrees (axisLimit (s .longitude))) (s .nd) ≡ true = omega (arith, le-leb) in
-    rw k (cc (c .notation-of .ensures, letter-is l))
+    rw k (cc (c .notation-of .ensures, letter-is l, total-is t))
 
 pub write-notation-spec : {M : Type 1} → statement M
 write-notation-spec =
@@ -52,6 +61,8 @@ write-notation-spec =
     (λ c κs. search needs)
     mul-if1
     returns
+    total-written-requires
     (λ c κs. search needs)
-    notation-of-requires
+    (λ c κs. search needs)
+    (λ c κs. search needs)
     returns-2)

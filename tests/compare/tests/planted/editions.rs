@@ -29,6 +29,8 @@ slips_are_caught! {
     half_of_an_odd_area_rounded_down_is_caught: Slip::HalfOfTheAreaRoundedDown;
     degrees_cut_to_64_bits_are_caught: Slip::TotalCutTo64Bits;
     zero_with_south_or_west_refused_is_caught: Slip::NegativeZeroRefused;
+    zero_written_with_south_or_west_is_caught: Slip::NegativeZeroWritten;
+    total_of_1_taken_as_zero_is_caught: Slip::OneTakenAsZero;
     kind_not_asked_is_caught: TwoGridSlip::KindNotAsked;
     eighty_bytes_not_asked_are_caught: TwoGridSlip::EightyBytesNotAsked;
     eighty_bytes_before_the_edition_are_caught: TwoGridSlip::EightyBytesBeforeTheEdition;

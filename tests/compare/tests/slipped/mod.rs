@@ -139,14 +139,23 @@ impl Converter for Slipped {
             notation.fill(0);
         }
         let number = Reference.write_notation(axis, nd, notation);
-        if number == 0 && self.has(Slip::SecondsRoundedAfterTheSplit) {
-            // A minute is 50,000,000 / 3 nd.
-            let thirds = 3 * nd.unsigned_abs();
-            let (minutes, rest) = (thirds / 50_000_000, thirds % 50_000_000);
-            let seconds = (6 * rest + 25) / 50;
-            *notation = [minutes / 60, minutes % 60, seconds, notation[3]];
+        if number != 0 {
+            return number;
         }
-        number
+        let (positive, negative) = axis.letters();
+        match self.0 {
+            Slip::SecondsRoundedAfterTheSplit => {
+                // A minute is 50,000,000 / 3 nd.
+                let thirds = 3 * nd.unsigned_abs();
+                let (minutes, rest) = (thirds / 50_000_000, thirds % 50_000_000);
+                let seconds = (6 * rest + 25) / 50;
+                *notation = [minutes / 60, minutes % 60, seconds, notation[3]];
+            }
+            Slip::NegativeZeroWritten if nd < 0 => notation[3] = negative.into(),
+            Slip::OneTakenAsZero if notation[..3] == [0, 0, 1] => notation[3] = positive.into(),
+            _ => {}
+        }
+        0
     }
 
     fn convert_file(&self, format: Format, file: &mut [u8], room: FileRoom) -> Number {

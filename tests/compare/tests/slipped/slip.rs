@@ -61,6 +61,10 @@ pub enum Slip {
     TotalCutTo64Bits,
     /// Zero with S or W is refused.
     NegativeZeroRefused,
+    /// The letter that is written follows the sign, that of −1 nd too.
+    NegativeZeroWritten,
+    /// The letter of a total of 1 is that of zero.
+    OneTakenAsZero,
     /// In edition 2.
     TwoGrids(TwoGridSlip),
     /// With a dense grid.
