@@ -12,7 +12,7 @@ static const char *meaning(enum marker_number number) {
     switch (number) {
     case MARKER_DONE: return "Nothing is refused.";
     case MARKER_REFUSED_IMAGE_LENGTH: return "The image is too short for its trailer, or for that of its dense grid.";
-    case MARKER_REFUSED_EDITION: return "The image is of an edition or a kind that this code does not know.";
+    case MARKER_REFUSED_EDITION: return "The image is of an edition or a kind that this code does not know, or that is not converted.";
     case MARKER_REFUSED_NODE_COUNT: return "The image has too few or too many rows or columns.";
     case MARKER_REFUSED_SPACING: return "A spacing of the image is zero or too large.";
     case MARKER_REFUSED_GRID_BOUNDS: return "A bound of the image is no latitude or longitude.";
@@ -24,7 +24,7 @@ static const char *meaning(enum marker_number number) {
     case MARKER_REFUSED_NOT_SETTLED: return "The way out has not settled after five evaluations.";
     case MARKER_REFUSED_SLOPE: return "The steps between neighbours are too large for the spacings.";
     case MARKER_REFUSED_BAD_NOTATION: return "The notation is no latitude or longitude.";
-    case MARKER_REFUSED_LIST_LENGTHS: return "The lengths of fixes and answers do not fit each other.";
+    case MARKER_REFUSED_LIST_LENGTHS: return "The lengths of fixes and answers do not fit each other, or a buffer has not the right one.";
     case MARKER_REFUSED_OFF_HEIGHT_GRID: return "The Bessel point lies off the height grid.";
     case MARKER_REFUSED_VDATUM_FILE: return "The VDatum file's header is no grid's, or the file or the buffer is not of its length.";
     case MARKER_REFUSED_VDATUM_HEIGHT: return "A height of the VDatum file is not finite or past its limit.";

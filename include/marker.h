@@ -10,9 +10,10 @@
  * has a dense grid of corrections too, inside the correction grid. 1 to 6 are put to all of them, each question to the correction
  * grid, then to the height grid and last to the dense grid; 20 comes right after 6, and 21 in the grid check after 12. Its kind 2
  * answers fixes past the edge too: 8, 10 and 15 are not put to it, an answer without a height has the number MARKER_NO_HEIGHT, which
- * is no refusal, and 22 comes in its grid check before 12. 16 and 17 are put to VDatum files, which the bench converts into the
- * height nodes of such an image, and 18 and 19 to NTv2 files, which it converts into the correction nodes and, of a subgrid, the
- * dense nodes.
+ * is no refusal, and 22 comes in its grid check before 12. Its kind 3 is kind 0 with the corrections in another order, and answers
+ * as kind 0 does. 16 and 17 are put to VDatum files, which the bench converts into the height nodes of such an image, and 18 and 19
+ * to NTv2 files, which it converts into the correction nodes and, of a subgrid, the dense nodes. A conversion between kinds 0 and 3
+ * puts 1 to 6 and 20, then 2 once more for another kind or edition, and 14 last.
  */
 #ifndef MARKER_H
 #define MARKER_H
@@ -32,7 +33,8 @@ enum marker_number {
     MARKER_REFUSED_IMAGE_LENGTH = 1,     /* the image has fewer than 40 bytes, in edition 2 fewer than 80. With kind 1 also, once the
                                             kind is known: fewer than 36 plus the back to the correction nodes, whatever that back
                                             is */
-    MARKER_REFUSED_EDITION = 2,          /* its edition is not 1 or 2, or edition 2's kind is not 0, 1 or 2 */
+    MARKER_REFUSED_EDITION = 2,          /* its edition is not 1 or 2, or edition 2's kind is not 0, 1, 2 or 3. In a
+                                            conversion between kinds 0 and 3 also: it is not of the kind taken */
     MARKER_REFUSED_NODE_COUNT = 3,       /* its rows or columns are not from 2 to 4,096 */
     MARKER_REFUSED_SPACING = 4,          /* a spacing is not from 1 to 100,000,000 */
     MARKER_REFUSED_GRID_BOUNDS = 5,      /* a bound lies past 90 degrees (south, north) or 180 degrees (west, east) from zero */
@@ -51,7 +53,9 @@ enum marker_number {
                                             both corrections of a dense grid, by its own steps and spacings */
     MARKER_REFUSED_BAD_NOTATION = 13,    /* minutes or seconds not below 60, a letter not of the axis, or an angle past 90 or 180
                                             degrees from zero */
-    MARKER_REFUSED_LIST_LENGTHS = 14,    /* the fixes' length is not 3 * n and the answers' length 5 * n for the same n */
+    MARKER_REFUSED_LIST_LENGTHS = 14,    /* the fixes' length is not 3 * n and the answers' length 5 * n for the same n. In a
+                                            conversion between kinds 0 and 3: the buffer's length is not that from the first node
+                                            to the image's end */
     MARKER_REFUSED_OFF_HEIGHT_GRID = 15, /* edition 2: the Bessel point is not in the bounds of the height grid. Put after 11 going
                                             out, and going back after 9 for the corrections; 9 for the heights comes last. Not put
                                             to kind 2 */
@@ -105,12 +109,17 @@ enum marker_number {
  *
  *   height node       0  int32_t   quasi-geoid height, units
  *
+ *   kind 3 has, in place of the correction nodes, rows * columns latitude corrections and then as many longitude corrections:
+ *
+ *   correction        0  int32_t   latitude correction or longitude correction, nd
+ *
  *   trailer           0            geometry of the correction grid
  *                    32            geometry of the height grid
- *                    64  uint32_t  back to the first correction node, 8 * rows * columns (correction grid) + back to the first
- *                                  height node
+ *                    64  uint32_t  back to the first correction node, in kind 3 to the first latitude correction,
+ *                                  8 * rows * columns (correction grid) + back to the first height node
  *                    68  uint32_t  back to the first height node, 4 * rows * columns (height grid) + 80
- *                    72  uint32_t  kind: 0, or 1 with a dense grid, or 2, laid out as 0, to answer fixes past the edge
+ *                    72  uint32_t  kind: 0, or 1 with a dense grid, or 2, laid out as 0, to answer fixes past the edge, or 3,
+ *                                  latitude corrections before longitude corrections
  *                    76  uint32_t  edition: 2
  *
  *   geometry  0  int64_t   southern latitude, nd
@@ -244,14 +253,16 @@ enum {
  * grow with the image, the list or the file. The seventh argument of marker_corrections_from_ntv2 is not counted: its caller puts it on
  * the stack before. */
 enum {
-    MARKER_CODE_BYTES = 28312,
-    MARKER_GRID_CHECK_STACK = 784,
-    MARKER_LIST_OUT_STACK = 1768,
-    MARKER_LIST_BACK_STACK = 1768,
+    MARKER_CODE_BYTES = 29899,
+    MARKER_GRID_CHECK_STACK = 816,
+    MARKER_LIST_OUT_STACK = 1800,
+    MARKER_LIST_BACK_STACK = 1800,
     MARKER_READ_NOTATION_STACK = 8,
     MARKER_WRITE_NOTATION_STACK = 8,
     MARKER_HEIGHTS_FROM_VDATUM_STACK = 200,
-    MARKER_CORRECTIONS_FROM_NTV2_STACK = 840
+    MARKER_CORRECTIONS_FROM_NTV2_STACK = 840,
+    MARKER_PLANES_FROM_NODES_STACK = 280,
+    MARKER_NODES_FROM_PLANES_STACK = 280
 };
 
 /* The grid check. Gives 0 with the findings written, or 1 to 6, 20, 9, 22, 12 or 21. */
@@ -306,6 +317,17 @@ int64_t marker_heights_from_vdatum(const uint8_t *file, size_t file_len, uint8_t
  * other is not asked here: if they do not, an image of them is refused, by 20 in every call or by 21 in the grid check. */
 int64_t marker_corrections_from_ntv2(const uint8_t *file, size_t file_len, uint8_t *nodes, size_t nodes_len, uint8_t *dense,
                                      size_t dense_len, int64_t geometry[MARKER_GEOMETRIES_LENGTH]);
+
+/* Converts an image of kind 0 into one of kind 3. The buffer has room for the bytes from the first node to the image's end, no more and no
+ * less, which is the back to the first correction node, and gets these bytes: the corrections in planes, then the heights and the trailer
+ * as they were, but for the kind. It is an image as it stands, and so it is after any other bytes. Gives 0 with the buffer written, or 1 to
+ * 6, 20, 2 or 14 with it unchanged.
+ *
+ * Every image of kind 0 and the one of kind 3 converted from it give the same numbers, findings and answers in every call above. */
+int64_t marker_planes_from_nodes(const uint8_t *image, size_t image_len, uint8_t *buffer, size_t buffer_len);
+
+/* Converts an image of kind 3 into one of kind 0, likewise. There and back gives the bytes of the image from its first node on. */
+int64_t marker_nodes_from_planes(const uint8_t *image, size_t image_len, uint8_t *buffer, size_t buffer_len);
 
 #ifdef __cplusplus
 }

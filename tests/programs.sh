@@ -1,4 +1,4 @@
-# What tests/gridcheck and tests/roundtrip share: inputs made from grid G's 148 bytes and from images of edition 2, of kinds 0, 1 and 2,
+# What tests/gridcheck and tests/roundtrip share: inputs made from grid G's 148 bytes and from images of edition 2, of kinds 0 to 3,
 # and the comparison of what a program prints.
 # To be sourced, with `program` set to the program's name. It is target/bin/NAME, written by `rt ci` or `rt check NAME`.
 # shellcheck shell=bash disable=SC2154
@@ -62,11 +62,23 @@ two_grids() {
     for node in 0 1 2 3 4 5 6 7 8; do
         numbers 4 $((100 + 4 * (node / 3))) -50
     done
+    behind_corrections 0
+}
+
+# two_grids_in_planes: writes the same image of kind 3, the nine latitude corrections and then the nine longitude corrections.
+two_grids_in_planes() {
+    numbers 4 100 100 100 104 104 104 108 108 108
+    numbers 4 -50 -50 -50 -50 -50 -50 -50 -50 -50
+    behind_corrections 3
+}
+
+# behind_corrections KIND: writes what follows the corrections of these images.
+behind_corrections() {
     heights
     numbers 8 52000000000 5000000000
     numbers 4 1000 1000 3 3
     height_geometry
-    numbers 4 200 128 0 2
+    numbers 4 200 128 "$1" 2
 }
 
 # heights, height_geometry: writes the nodes and the geometry of these heights.

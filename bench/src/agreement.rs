@@ -1,7 +1,7 @@
 //! That the implementations answer alike: the two over whole numbers exactly, those over f64 nearly.
 
 use crate::proj::{self, Pipeline};
-use bench::grid::{self, Grid};
+use bench::grid::Grid;
 use bench::{fixes, library, plain, Edition, GridCheck, Implementation, Way};
 
 /// Fixes on, near and past bounds and limits that are compared beside those of the measurement.
@@ -17,36 +17,50 @@ pub struct Distance {
 
 /// Compares every answer and the grid check of the library and the i128 implementation.
 pub fn require(grid: &Grid, fixes: &[i64]) {
-    require_answers(grid, fixes);
-    require_answers(grid, &others(grid));
-    let checks: [GridCheck; 2] = [library::grid_check, plain::grid_check];
-    let [found, expected] = checks.map(|grid_check| {
-        let mut findings = [-1; 6];
-        (grid_check(&grid.image, &mut findings), findings)
-    });
-    assert_eq!(found, expected, "the grid checks differ");
-    assert_eq!(found.0, 0, "the grid does not pass");
+    let image = &grid.image[..];
+    let both = [Implementation::Library, Implementation::Plain].map(|it| (it, image));
+    require_answers(both, fixes);
+    require_answers(both, &others(grid));
+    require_findings([library::grid_check, plain::grid_check].map(|it| (it, image)));
 }
 
-/// The same on a grid of edition 2 whose heights leave part of the corrections out, with fixes both
-/// ways that get number 15.
-pub fn require_off_heights() {
-    let grid = grid::narrow_heights();
-    require(&grid, &fixes::spread(&grid.heights, OTHER_FIXES));
+/// Compares every answer and the grid check of the library over a grid of kind 3 and over its image of
+/// kind 0.
+pub fn require_kind_0(grid: &Grid, of_kind_0: &[u8], fixes: &[i64]) {
+    let both = [&grid.image[..], of_kind_0];
+    let library = both.map(|image| (Implementation::Library, image));
+    require_answers(library, fixes);
+    require_answers(library, &others(grid));
+    require_findings(both.map(|image| (library::grid_check as GridCheck, image)));
+}
+
+/// The first comparison on a grid of edition 2 whose heights leave part of the corrections out, with
+/// fixes both ways that get number 15.
+pub fn require_off_heights(grid: &Grid) {
+    require(grid, &fixes::spread(&grid.heights, OTHER_FIXES));
     for way in [Way::Out, Way::Back] {
-        let answers = list_of(Implementation::Plain, way, &grid.image, &others(&grid));
+        let answers = list_of(Implementation::Plain, way, &grid.image, &others(grid));
         let seen = answers.chunks_exact(5).any(|answer| answer[4] == 15);
         assert!(seen, "no fix {way:?} is off the heights");
     }
 }
 
-/// Compares both ways' answers to a list.
-fn require_answers(grid: &Grid, fixes: &[i64]) {
+/// Compares both ways' answers to a list, of two implementations or over two images.
+fn require_answers(both: [(Implementation, &[u8]); 2], fixes: &[i64]) {
     for way in [Way::Out, Way::Back] {
-        let found = list_of(Implementation::Library, way, &grid.image, fixes);
-        let expected = list_of(Implementation::Plain, way, &grid.image, fixes);
+        let [found, expected] = both.map(|(it, image)| list_of(it, way, image, fixes));
         assert!(found == expected, "the answers {way:?} differ");
     }
+}
+
+/// Compares the findings of two grid checks that pass.
+fn require_findings(both: [(GridCheck, &[u8]); 2]) {
+    let [found, expected] = both.map(|(grid_check, image)| {
+        let mut findings = [-1; 6];
+        (grid_check(image, &mut findings), findings)
+    });
+    assert_eq!(found, expected, "the grid checks differ");
+    assert_eq!(found.0, 0, "the grid does not pass");
 }
 
 /// Fixes on, near and past the corrections' bounds, and as many for the heights' own, for those of a

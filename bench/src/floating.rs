@@ -1,10 +1,11 @@
-//! Document 01's formulas, edition 2's and those of its kinds 1 and 2, over f64, with none of their
+//! Document 01's formulas, edition 2's and those of its kinds 1 to 3, over f64, with none of their
 //! questions and no test of an index: what a program reaches that promises nothing. It reads past the
 //! image where that or a fix is unfit, and its answers are near those of the papers, not equal to them.
 
 mod dense;
 mod first;
 mod nodes;
+mod planes;
 mod second;
 #[cfg(test)]
 mod tests;
@@ -20,6 +21,8 @@ pub fn list(way: Way, image: &[u8], fixes: &[i64], answers: &mut [i64]) -> i64 {
         dense::list(way, image, fixes, answers)
     } else if image.ends_with(&[2, 0, 0, 0, 2, 0, 0, 0]) {
         unbounded::list(way, image, fixes, answers)
+    } else if image.ends_with(&[3, 0, 0, 0, 2, 0, 0, 0]) {
+        planes::list(way, image, fixes, answers)
     } else if image.ends_with(&2_u32.to_le_bytes()) {
         second::list(way, image, fixes, answers)
     } else {

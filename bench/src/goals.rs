@@ -20,7 +20,7 @@ const PLAIN: usize = 1;
 const FLOATING: usize = 2;
 const PROJ: usize = 3;
 
-pub fn write(editions: &[Measured; 4], files: &[FileSpeeds]) -> String {
+pub fn write(editions: &[Measured], files: &[FileSpeeds]) -> String {
     let mut text = String::from("\n## Goals\n\ngoal | measured | |\n---|---:|---|\n");
     let told = |met: bool| if met { "met" } else { "missed" };
     let goals = all_editions(editions).into_iter();
@@ -51,7 +51,7 @@ pub fn write(editions: &[Measured; 4], files: &[FileSpeeds]) -> String {
 }
 
 /// The goals over all rows of both editions and of each kind; PROJ's not where fixes lie past the edge.
-fn all_editions(editions: &[Measured; 4]) -> [Goal; 3] {
+fn all_editions(editions: &[Measured]) -> [Goal; 3] {
     let conversions = |other: usize| {
         let rows = editions.iter().flat_map(|it| {
             let speeds = &it.speeds;

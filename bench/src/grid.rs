@@ -22,14 +22,17 @@ pub enum Edition {
     SecondDense,
     /// Answers past the edge too.
     SecondUnbounded,
+    /// All latitude corrections, then all longitude corrections.
+    SecondPlanes,
 }
 
 impl Edition {
-    pub const ALL: [Edition; 4] = [
+    pub const ALL: [Edition; 5] = [
         Edition::First,
         Edition::Second,
         Edition::SecondDense,
         Edition::SecondUnbounded,
+        Edition::SecondPlanes,
     ];
 
     /// In a word of the command line and of a file's name.
@@ -39,6 +42,7 @@ impl Edition {
             Edition::Second => "2",
             Edition::SecondDense => "2-dense",
             Edition::SecondUnbounded => "2-unbounded",
+            Edition::SecondPlanes => "2-planes",
         }
     }
 
@@ -54,6 +58,7 @@ impl Edition {
             Edition::Second => "Edition 2",
             Edition::SecondDense => "Kind 1 (edition 2 with a dense grid)",
             Edition::SecondUnbounded => "Kind 2 (edition 2 past the edge)",
+            Edition::SecondPlanes => "Kind 3 (edition 2 with corrections in planes)",
         }
     }
 }
@@ -132,12 +137,7 @@ impl Grid {
         height: impl Fn(u32, u32) -> i32,
     ) -> Grid {
         let mut grid = Grid::of_zeros(corrections, heights);
-        for (row, column) in grid.corrections.places() {
-            let [latitude, longitude] = correction(row, column);
-            let at = grid.correction_at(row, column);
-            grid.put(at, latitude);
-            grid.put(at + 4, longitude);
-        }
+        grid.put_corrections(correction);
         for (row, column) in grid.heights.places() {
             grid.put(grid.height_at(row, column), height(row, column));
         }
@@ -193,12 +193,27 @@ impl Grid {
         self
     }
 
+    /// A grid of edition 2 with its corrections in planes.
+    pub fn in_planes(self) -> Grid {
+        let mut planes = Grid {
+            edition: Edition::SecondPlanes,
+            image: self.image.clone(),
+            ..self
+        };
+        planes.put_corrections(|row, column| self.correction(row, column));
+        planes.put_kind(3);
+        planes
+    }
+
     /// The image of the same grid of kind 0, without dense corrections.
     pub fn image_of_kind_0(&self) -> Vec<u8> {
         let mut coarse = Grid {
+            edition: Edition::Second,
+            dense: None,
             image: self.image[self.first()..].to_vec(),
             ..*self
         };
+        coarse.put_corrections(|row, column| self.correction(row, column));
         coarse.put_kind(0);
         coarse.image
     }
@@ -208,14 +223,23 @@ impl Grid {
         self.dense.as_ref().map_or(0, dense_bytes)
     }
 
+    fn put_corrections(&mut self, correction: impl Fn(u32, u32) -> [i32; 2]) {
+        for (row, column) in self.corrections.places() {
+            let places = self.correction_places(row, column);
+            for (at, value) in places.into_iter().zip(correction(row, column)) {
+                self.put(at, value);
+            }
+        }
+    }
+
     fn put_kind(&mut self, kind: i32) {
         self.put(self.image.len() - 8, kind);
     }
 
     /// The corrections of the node of a row and a column.
     pub fn correction(&self, row: u32, column: u32) -> [i32; 2] {
-        let at = self.correction_at(row, column);
-        [at, at + 4].map(|at| self.number_at(at))
+        let places = self.correction_places(row, column);
+        places.map(|at| self.number_at(at))
     }
 
     /// The height of the node of a row and a column.
@@ -241,12 +265,15 @@ impl Grid {
         }
     }
 
-    fn correction_at(&self, row: u32, column: u32) -> usize {
-        let node_bytes = match self.edition {
-            Edition::First => 12,
-            _ => 8,
+    /// Where the corrections of the node of a row and a column stand in the image.
+    pub fn correction_places(&self, row: u32, column: u32) -> [usize; 2] {
+        let (node_bytes, to_longitude) = match self.edition {
+            Edition::First => (12, 4),
+            Edition::SecondPlanes => (4, 4 * self.corrections.nodes()),
+            _ => (8, 4),
         };
-        self.first() + node_bytes * self.corrections.index(row, column)
+        let at = self.first() + node_bytes * self.corrections.index(row, column);
+        [at, at + to_longitude]
     }
 
     fn height_at(&self, row: u32, column: u32) -> usize {

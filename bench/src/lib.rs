@@ -1,6 +1,7 @@
 //! What both programs of the bench share: made-up grids, fixes and files, and the implementations
 //! of each call behind one interface.
 
+pub mod converters;
 pub mod files;
 pub mod fixes;
 pub mod floating;

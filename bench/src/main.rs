@@ -1,9 +1,11 @@
 //! Measures the library, the plain implementations and PROJ over images of both editions, of the
-//! second in all kinds, and the conversion of VDatum and NTv2 files. `bench FOLDER` writes
-//! the table and the plot there, as table.md and plot.svg; `bench --quick` prints a short table of
-//! each edition and of the files.
+//! second in all kinds, the conversion of one kind to another, and that of VDatum and NTv2 files.
+//! `bench FOLDER` writes the table and the plot there, as table.md and plot.svg; `bench --quick`
+//! prints a short table of each edition and of the files.
 
 mod agreement;
+mod converter_agreement;
+mod converter_speeds;
 mod counts;
 mod file_agreement;
 mod file_speeds;

@@ -1,6 +1,6 @@
 //! One list call in a process of its own, for callgrind: it collects within `counted_call` alone.
-//! `one-list 1|2|2-dense|2-unbounded library|plain|floating out|back count C N` calls, over an image
-//! of that edition, of the second of that kind, with N equal fixes whose way out has the count C;
+//! `one-list 1|2|2-dense|2-unbounded|2-planes library|plain|floating out|back count C N` calls, over an
+//! image of that edition, of the second of that kind, with N equal fixes whose way out has the count C;
 //! `.. size ROWS COLUMNS N` with N equal fixes over a grid of that size; `.. wide C N` with N equal
 //! fixes over one with wide height cells, where the way out has the count C.
 

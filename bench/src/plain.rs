@@ -1,7 +1,8 @@
 //! A straightforward implementation of document 01, of edition 2 of its image in all its kinds, and of
-//! VDatum and NTv2 files (document 02, notes 1, 2 and 4 to 6), over i128, written for speed.
+//! VDatum and NTv2 files (document 02, notes 1, 2, 4 to 6 and 8), over i128, written for speed.
 
 mod axis;
+mod converters;
 mod dense;
 mod file_geometry;
 mod first;
@@ -9,6 +10,7 @@ mod fix;
 mod floats;
 mod nodes;
 mod ntv2;
+mod planes;
 mod second;
 mod slopes;
 #[cfg(test)]
@@ -18,6 +20,7 @@ mod two_grids;
 mod unbounded;
 mod vdatum;
 
+pub use converters::{nodes_from_planes, planes_from_nodes};
 pub use ntv2::corrections_from_ntv2;
 pub use vdatum::heights_from_vdatum;
 
@@ -31,6 +34,8 @@ pub fn list(way: Way, image: &[u8], fixes: &[i64], answers: &mut [i64]) -> Numbe
         dense::list(way, image, fixes, answers)
     } else if is_of_kind(image, 2) {
         unbounded::list(way, image, fixes, answers)
+    } else if is_of_kind(image, 3) {
+        planes::list(way, image, fixes, answers)
     } else if is_second(image) {
         second::list(way, image, fixes, answers)
     } else {
@@ -43,6 +48,8 @@ pub fn grid_check(image: &[u8], findings: &mut [i64; 6]) -> Number {
         dense::grid_check(image, findings)
     } else if is_of_kind(image, 2) {
         unbounded::grid_check(image, findings)
+    } else if is_of_kind(image, 3) {
+        planes::grid_check(image, findings)
     } else if is_second(image) {
         second::grid_check(image, findings)
     } else {

@@ -1,6 +1,8 @@
 //! The measurements: conversions and checked nodes per second.
 
 use crate::agreement::{self, Distance};
+use crate::converter_agreement;
+use crate::converter_speeds::{self, ConverterSpeeds};
 use crate::measure::{median_seconds, Work};
 use crate::plan::{Plan, LENGTH_OF_DISTANCE, LENGTH_OF_SIZES, SIZE_OF_LENGTHS};
 use crate::proj::{self, Pipeline};
@@ -27,13 +29,17 @@ pub struct Speeds {
     pub wide: Vec<Conversions>,
     /// Nodes per second of the library and the plain implementation, by grid size.
     pub checks: Vec<[f64; 2]>,
-    /// In kinds 1 and 2: the conversions over the same grid of kind 0 and of that kind, by grid size.
+    /// In kinds 1 to 3: the conversions over the same grid of kind 0 and of that kind, by grid size.
     pub beside_kind_0: Vec<BesideKind0>,
+    /// In kind 3: nodes per second of the grid check over the same grids, by grid size.
+    pub checks_beside_kind_0: Vec<Beside>,
+    /// In kind 3: the converters from kind 0 to it and back.
+    pub converters: ConverterSpeeds,
     /// In kind 2: the conversions of lists of which every other fix lies past the edge, by grid size.
     pub past_the_edge: Vec<PastTheEdge>,
     /// How far the answers of the f64 implementation and PROJ's lie from the library's.
     pub distances: [Distance; 2],
-    /// In kinds 1 and 2: images that both whole-number implementations refused with the same number.
+    /// In edition 2: images that both whole-number implementations refused with the same number.
     pub refused: usize,
 }
 
@@ -57,7 +63,7 @@ pub struct PastTheEdge {
     pub back: [f64; 3],
 }
 
-/// Conversions per second over kind 0 and over the other kind.
+/// Conversions or nodes per second over kind 0 and over the other kind.
 pub struct Beside {
     pub library: [f64; 2],
     pub plain: [f64; 2],
@@ -74,7 +80,11 @@ pub fn measure(plan: &Plan) -> Speeds {
     let folder = Folder::new();
     let mut speeds = Speeds::default();
     if plan.edition == Edition::Second {
-        agreement::require_off_heights();
+        agreement::require_off_heights(&grid::narrow_heights());
+    }
+    if plan.edition == Edition::SecondPlanes {
+        agreement::require_off_heights(&grid::narrow_heights().in_planes());
+        speeds.converters.refused = converter_agreement::require_refusals();
     }
     speeds.refused = refusals::require(plan.edition);
     for &(rows, columns) in plan.sizes {
@@ -83,12 +93,7 @@ pub fn measure(plan: &Plan) -> Speeds {
         let bench = Bench::over(grid, plan, &folder);
         speeds.by_size.push(bench.conversions(LENGTH_OF_SIZES));
         speeds.checks.push(bench.check_speeds());
-        if [Edition::SecondDense, Edition::SecondUnbounded].contains(&plan.edition) {
-            speeds.beside_kind_0.push(bench.beside_kind_0());
-        }
-        if plan.edition == Edition::SecondUnbounded {
-            speeds.past_the_edge.push(bench.past_the_edge());
-        }
+        bench.measure_kind(&mut speeds);
         if (rows, columns) == SIZE_OF_LENGTHS && !plan.lengths.is_empty() {
             bench.measure_lengths(plan.lengths, &mut speeds);
         }
@@ -128,6 +133,18 @@ fn list_work<'a>(
     })
 }
 
+/// The library's grid check and the i128 implementation's.
+const CHECKS: [GridCheck; 2] = [library::grid_check, plain::grid_check];
+
+/// A grid check of an image.
+fn check_work(grid_check: GridCheck, image: &[u8]) -> Work<'_> {
+    Box::new(move || {
+        let mut findings = [0; 6];
+        grid_check(black_box(image), &mut findings);
+        black_box(&findings);
+    })
+}
+
 impl Bench {
     fn over(grid: Grid, plan: &Plan, folder: &Folder) -> Bench {
         eprintln!("{}: grid of {}", plan.edition.words(), grid_words(&grid));
@@ -145,6 +162,27 @@ impl Bench {
         }
         let list = fixes::spread_over(&self.grid, LENGTH_OF_DISTANCE);
         speeds.distances = agreement::distances(&self.grid, &self.pipeline, &list);
+    }
+
+    /// What kinds 1 to 3 have of their own.
+    fn measure_kind(&self, speeds: &mut Speeds) {
+        let edition = self.grid.edition;
+        if [Edition::First, Edition::Second].contains(&edition) {
+            return;
+        }
+        let without = self.grid.image_of_kind_0();
+        speeds.beside_kind_0.push(self.beside_kind_0(&without));
+        if edition == Edition::SecondUnbounded {
+            speeds.past_the_edge.push(self.past_the_edge());
+        }
+        if edition == Edition::SecondPlanes {
+            let list = fixes::spread_over(&self.grid, LENGTH_OF_SIZES);
+            agreement::require_kind_0(&self.grid, &without, &list);
+            let checks = &mut speeds.checks_beside_kind_0;
+            checks.push(self.checks_beside_kind_0(&without));
+            let converters = &mut speeds.converters.by_size;
+            converters.push(converter_speeds::measure(&self.grid, self.repeats));
+        }
     }
 
     /// The conversions of a list of so many fixes.
@@ -195,41 +233,52 @@ impl Bench {
         }
     }
 
-    /// The library and the i128 implementation over the same grid of kind 0 and of this kind, in turn.
-    fn beside_kind_0(&self) -> BesideKind0 {
+    /// The conversions over the grid's image of kind 0 and over its own.
+    fn beside_kind_0(&self, without: &[u8]) -> BesideKind0 {
         let list = fixes::spread_over(&self.grid, LENGTH_OF_SIZES);
-        let without = self.grid.image_of_kind_0();
-        let beside = |way: Way| {
-            let work = |implementation, image| list_work(implementation, way, image, &list);
-            let mut works = [
-                work(Implementation::Library, &without),
-                work(Implementation::Library, &self.grid.image),
-                work(Implementation::Plain, &without),
-                work(Implementation::Plain, &self.grid.image),
-            ];
-            let seconds = median_seconds(&mut works, self.repeats);
-            let [first, second, third, fourth] =
-                seconds.map(|seconds| LENGTH_OF_SIZES as f64 / seconds);
-            Beside {
-                library: [first, second],
-                plain: [third, fourth],
-            }
+        let of_way = |way: Way| {
+            let work = |it: &Implementation, image| list_work(*it, way, image, &list);
+            let programs = [Implementation::Library, Implementation::Plain];
+            self.beside(without, programs, work, LENGTH_OF_SIZES)
         };
         BesideKind0 {
-            out: beside(Way::Out),
-            back: beside(Way::Back),
+            out: of_way(Way::Out),
+            back: of_way(Way::Back),
+        }
+    }
+
+    /// The same of the grid check.
+    fn checks_beside_kind_0(&self, without: &[u8]) -> Beside {
+        let work = |it: &GridCheck, image| check_work(*it, image);
+        self.beside(without, CHECKS, work, self.grid.nodes())
+    }
+
+    /// The work of the library and of the i128 implementation, which is of so many parts, over the
+    /// grid's image of kind 0 and over its own, in turn: parts per second.
+    fn beside<'a, Program>(
+        &'a self,
+        without: &'a [u8],
+        [library, plain]: [Program; 2],
+        work: impl Fn(&Program, &'a [u8]) -> Work<'a>,
+        parts: usize,
+    ) -> Beside {
+        let own = &self.grid.image;
+        let mut works = [
+            work(&library, without),
+            work(&library, own),
+            work(&plain, without),
+            work(&plain, own),
+        ];
+        let seconds = median_seconds(&mut works, self.repeats);
+        let [first, second, third, fourth] = seconds.map(|seconds| parts as f64 / seconds);
+        Beside {
+            library: [first, second],
+            plain: [third, fourth],
         }
     }
 
     fn check_speeds(&self) -> [f64; 2] {
-        let check_work = |grid_check: GridCheck| -> Work {
-            Box::new(move || {
-                let mut findings = [0; 6];
-                grid_check(black_box(&self.grid.image), &mut findings);
-                black_box(&findings);
-            })
-        };
-        let mut works = [library::grid_check, plain::grid_check].map(check_work);
+        let mut works = CHECKS.map(|it| check_work(it, &self.grid.image));
         let seconds = median_seconds(&mut works, self.repeats);
         seconds.map(|seconds| self.grid.nodes() as f64 / seconds)
     }

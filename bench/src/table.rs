@@ -22,7 +22,7 @@ pub struct Measured {
     pub counts: Counts,
 }
 
-pub fn write(editions: &[Measured; 4], files: &[FileSpeeds]) -> String {
+pub fn write(editions: &[Measured], files: &[FileSpeeds]) -> String {
     let mut text = String::from("# Speed of the conversion\n\n");
     text += &machine::words();
     let _ = writeln!(
@@ -70,11 +70,11 @@ pub fn edition(measured: &Measured) -> String {
     text += &kind_tables::write(&head, measured);
     let nodes = match plan.edition {
         Edition::First => "nodes",
-        Edition::Second | Edition::SecondUnbounded => "nodes of both grids",
         Edition::SecondDense => "nodes of all three grids",
+        _ => "nodes of both grids",
     };
     let _ = writeln!(text, "{head} grid check, {nodes} per second\n");
-    text += &checks(&speeds.sizes, &speeds.checks);
+    text += &two("grid", &speeds.sizes, speeds.checks.iter().copied());
     let _ = writeln!(text, "{head} instructions of one conversion (callgrind)\n");
     text += &instructions(&speeds.sizes, counts);
     text
@@ -147,11 +147,12 @@ fn four(speeds: Four) -> String {
     )
 }
 
-fn checks(names: &[String], rows: &[[f64; 2]]) -> String {
-    let mut text = String::new();
-    text += "grid | library | i128 | library / i128 |\n---|---:|---:|---:|\n";
+/// What the library and the i128 implementation alone do.
+pub fn two(first: &str, names: &[String], rows: impl Iterator<Item = [f64; 2]>) -> String {
+    let mut text = format!("{first} | library | i128 | library / i128 |\n");
+    text += "---|---:|---:|---:|\n";
     for (name, [library, plain]) in names.iter().zip(rows) {
-        let (first, second) = (grouped(*library), grouped(*plain));
+        let (first, second) = (grouped(library), grouped(plain));
         let _ = writeln!(
             text,
             "{name} | {first} | {second} | {:.2} |",
@@ -186,17 +187,22 @@ fn instructions(sizes: &[String], counts: &Counts) -> String {
     text
 }
 
-fn agreement(editions: &[Measured; 4], files: &[FileSpeeds]) -> String {
+fn agreement(editions: &[Measured], files: &[FileSpeeds]) -> String {
     let [others, taken] = [OTHER_FIXES, LENGTH_OF_DISTANCE].map(|count| grouped(count as f64));
     let size = size_words(SIZE_OF_LENGTHS);
     let refused: usize = editions.iter().map(|it| it.speeds.refused).sum();
+    let converters = editions.iter().map(|it| it.speeds.converters.refused);
+    let converters: usize = converters.sum();
     let mut text = format!(
         "\n## Agreement\n\nThe library and the i128 implementation gave the same answers to all \
          fixes above, and to {others} more on, near and past the bounds of each grid of \
          corrections, in edition 2 of heights, in kind 1 of dense corrections, and in kind 2 past the \
-         edge; also over an image of edition 2 whose heights leave out part of the corrections, where \
-         fixes get number 15; and they refused {refused} changed images of kinds 1 and 2 with the \
-         same number, 20, 21 and 22 among them. They converted all files \
+         edge; also over images of kinds 0 and 3 whose heights leave out part of the corrections, where \
+         fixes get number 15; the library gave the same over each grid of kind 3 and over the same of \
+         kind 0; and they refused {refused} changed images of edition 2, of all its \
+         kinds, with the same number, 20, 21 and 22 among them. They converted the images of kinds 0 \
+         and 3 above to the same bytes, those of the other kind, and refused {converters} images and \
+         buffers with the same number and nothing changed. They converted all files \
          above to the same nodes and geometry, and refused others with the same number and nothing \
          changed: {}. On the grids of {size} the answers to {taken} fixes lie at most so far from \
          the library's:\n\n",

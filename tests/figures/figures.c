@@ -208,8 +208,8 @@ static void refusals_of_kind_1(void) {
 static void refusals_of_edition_2(void) {
     struct image image;
     two_grids(&image, 3, 4);
-    put(image.bytes + TWO_GRIDS - 8, 3, 4);
-    tell("edition 2: kind 3 gives 2", check_refuses(&image, 2));
+    put(image.bytes + TWO_GRIDS - 8, 4, 4);
+    tell("edition 2: kind 4 gives 2", check_refuses(&image, 2));
     two_grids(&image, 3, 4);
     memmove(image.bytes, image.bytes + TWO_GRIDS - 79, 79);
     image.length = 79;

@@ -96,6 +96,12 @@ static void list(function *called) {
                                SIDE * SIDE * MARKER_ANSWER_LENGTH});
 }
 
+/* The image into the other arrangement, where it is of the right kind. */
+static void image_conversion(function *called) {
+    uint8_t buffer[MOST_BYTES];
+    call(called, (uint64_t[7]){(uintptr_t)image, size, (uintptr_t)buffer, size});
+}
+
 static void vdatum_conversion(function *called) {
     uint8_t nodes[6 * MARKER_HEIGHT_NODE_LENGTH];
     int64_t geometry[MARKER_GEOMETRY_LENGTH];
@@ -129,6 +135,10 @@ static void checks(function *called) {
 
 static void lists(function *called) {
     on_changed(image, size, called, list);
+}
+
+static void image_conversions(function *called) {
+    on_changed(image, size, called, image_conversion);
 }
 
 static void vdatum_conversions(function *called) {
@@ -191,6 +201,8 @@ int main(void) {
     measure("marker_grid_check", (function *)marker_grid_check, checks, MARKER_GRID_CHECK_STACK);
     measure("marker_list_out", (function *)marker_list_out, lists, MARKER_LIST_OUT_STACK);
     measure("marker_list_back", (function *)marker_list_back, lists, MARKER_LIST_BACK_STACK);
+    measure("marker_planes_from_nodes", (function *)marker_planes_from_nodes, image_conversions, MARKER_PLANES_FROM_NODES_STACK);
+    measure("marker_nodes_from_planes", (function *)marker_nodes_from_planes, image_conversions, MARKER_NODES_FROM_PLANES_STACK);
     if (edition() == 1) {
         measure("marker_read_notation", (function *)marker_read_notation, readings, MARKER_READ_NOTATION_STACK);
         measure("marker_write_notation", (function *)marker_write_notation, writings, MARKER_WRITE_NOTATION_STACK);

@@ -21,6 +21,11 @@ fn answers_are_near_in_edition_2() {
 }
 
 #[test]
+fn answers_are_near_in_planes() {
+    near(Edition::SecondPlanes);
+}
+
+#[test]
 fn answers_are_near_past_the_edge() {
     let grid = grid::national(Edition::SecondUnbounded, 64, 64);
     near_over(&grid, &fixes::spread_over(&grid, 1_000));

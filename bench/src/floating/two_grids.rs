@@ -77,8 +77,11 @@ pub fn height_of(nodes: &Nodes<4>, latitude: i64, longitude: i64) -> i64 {
     nearest(nodes.value(&place, 0))
 }
 
-/// The corrections and the heights by the trailer at the image's end.
-pub fn grids<'a>(image: &'a [u8], trailer: &Trailer) -> (Nodes<'a, 8>, Nodes<'a, 4>) {
+/// The corrections, so many bytes apart, and the heights by the trailer at the image's end.
+pub fn grids<'a, const BYTES: usize>(
+    image: &'a [u8],
+    trailer: &Trailer,
+) -> (Nodes<'a, BYTES>, Nodes<'a, 4>) {
     (
         Nodes::open(image, trailer, 0, trailer.short(64)),
         Nodes::open(image, trailer, 32, trailer.short(68)),

@@ -47,6 +47,7 @@ pub fn national(edition: Edition, rows: u32, columns: u32) -> Grid {
     };
     match edition {
         Edition::First | Edition::Second => over(&uneven_correction),
+        Edition::SecondPlanes => over(&uneven_correction).in_planes(),
         Edition::SecondDense => over_the_middle(over(&uneven_correction), |row, column| {
             [3, 4].map(|value| uneven(row, column, value) / 5)
         }),
@@ -102,12 +103,13 @@ pub fn zeros(edition: Edition, rows: u32, columns: u32) -> Grid {
     of_kind(edition, grid)
 }
 
-/// The grid, in kind 1 with a dense one over its middle that adds nothing.
+/// The grid as one of an edition, in kind 1 with a dense one over its middle that adds nothing.
 fn of_kind(edition: Edition, grid: Grid) -> Grid {
     match edition {
         Edition::First | Edition::Second => grid,
         Edition::SecondDense => over_the_middle(grid, |_, _| [0, 0]),
         Edition::SecondUnbounded => grid.unbounded(),
+        Edition::SecondPlanes => grid.in_planes(),
     }
 }
 

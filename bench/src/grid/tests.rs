@@ -169,6 +169,20 @@ fn the_image_without_its_dense_grid_is_that_of_edition_2() {
     assert_eq!(dense.nodes(), without.nodes() + 51 * 51);
 }
 
+#[test]
+fn the_image_in_planes_is_that_of_edition_2_arranged() {
+    let (planes, nodes) = (
+        national(Edition::SecondPlanes, 21, 33),
+        national(Edition::Second, 21, 33),
+    );
+    assert_eq!(planes.image_of_kind_0(), nodes.image);
+    assert_eq!(planes.correction(20, 3), nodes.correction(20, 3));
+    assert_eq!(planes.height(5, 7), nodes.height(5, 7));
+    assert_eq!(planes.correction_places(1, 2), [4 * 35, 4 * (21 * 33 + 35)]);
+    let fixes = fixes::spread_over(&planes, 1_000);
+    assert_eq!(answers(&planes, &fixes), answers(&nodes, &fixes));
+}
+
 /// Every other fix, of which some are on the heights and others not, and with kind 0 all are refused.
 #[test]
 fn fixes_lie_past_the_edge() {

@@ -1,6 +1,7 @@
 //! One axis of a grid.
 
 /// One axis: its bounds and spacing in nd, and its number of nodes.
+#[derive(Clone, Copy)]
 pub struct Axis {
     start: i64,
     end: i64,

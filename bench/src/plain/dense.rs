@@ -2,7 +2,7 @@
 
 use super::nodes::{Nodes, Point};
 use super::trailer::{all_axes, Trailer};
-use super::two_grids::{self, corrections_of, Source, TwoGrids};
+use super::two_grids::{self, Corrections, Source, TwoGrids};
 use super::{found, Number};
 use crate::Way;
 
@@ -18,12 +18,13 @@ pub fn list(way: Way, image: &[u8], fixes: &[i64], answers: &mut [i64]) -> Numbe
     two_grids::list(open(image), way, fixes, answers)
 }
 
-impl Source for Opened<'_> {
+impl<'a> Source for Opened<'a> {
+    type Corrections = Nodes<'a, 2>;
     const STOP: i64 = 3;
     const BOUNDED: bool = true;
 
     #[inline]
-    fn two_grids(&self) -> &TwoGrids<'_> {
+    fn two_grids(&self) -> &TwoGrids<'a> {
         &self.two
     }
 
@@ -36,7 +37,7 @@ impl Source for Opened<'_> {
         } else {
             &self.two.corrections
         };
-        corrections_of(nodes, p)
+        nodes.at(p)
     }
 }
 

@@ -11,11 +11,23 @@ pub struct Point {
     pub longitude: i64,
 }
 
-/// A grid whose nodes have so many values.
-pub struct Nodes<'a, const VALUES: usize> {
+/// A grid whose nodes have so many values; the height is the one with this place, and there is none
+/// where they are fewer.
+pub struct Nodes<'a, const VALUES: usize, const HEIGHT: usize = 2> {
     pub nodes: &'a [u8],
     pub latitude: Axis,
     pub longitude: Axis,
+}
+
+/// Heights alone.
+pub type Heights<'a> = Nodes<'a, 1, 0>;
+
+/// Where a point lies: the south-west node of its cell, and its parts of the cell.
+pub struct Place {
+    row: usize,
+    column: usize,
+    u: i64,
+    v: i64,
 }
 
 /// A point's cell: each value's four corners, south row first, the corners' weights, and the sum
@@ -26,16 +38,7 @@ pub struct Cell<const VALUES: usize> {
     area: i64,
 }
 
-/// Question 9's limit of a value: the height is the third of three, or alone.
-const fn limit(value: usize, values: usize) -> u32 {
-    if value == 2 || values == 1 {
-        1_000_000
-    } else {
-        10_000_000
-    }
-}
-
-impl<const VALUES: usize> Nodes<'_, VALUES> {
+impl<const VALUES: usize, const HEIGHT: usize> Nodes<'_, VALUES, HEIGHT> {
     pub const NODE_BYTES: usize = 4 * VALUES;
 
     pub fn holds(&self, p: Point) -> bool {
@@ -51,11 +54,25 @@ impl<const VALUES: usize> Nodes<'_, VALUES> {
         }
     }
 
+    /// Where a point in the bounds lies.
+    #[inline]
+    pub fn place(&self, p: Point) -> Place {
+        let (row, u) = self.latitude.place(p.latitude);
+        let (column, v) = self.longitude.place(p.longitude);
+        Place { row, column, u, v }
+    }
+
     /// The cell of a point in the bounds, after question 9.
     #[inline]
     pub fn cell(&self, p: Point) -> Result<Cell<VALUES>, Number> {
-        let (row, u) = self.latitude.place(p.latitude);
-        let (column, v) = self.longitude.place(p.longitude);
+        self.cell_at(&self.place(p))
+    }
+
+    /// The cell of a place, after question 9. Always in its caller, so that two grids with the same
+    /// axes share the weights.
+    #[inline(always)]
+    pub fn cell_at(&self, place: &Place) -> Result<Cell<VALUES>, Number> {
+        let &Place { row, column, u, v } = place;
         let bytes = Self::NODE_BYTES;
         let first = bytes * (row * self.longitude.count + column);
         let south = &self.nodes[first..][..2 * bytes];
@@ -82,8 +99,7 @@ impl<const VALUES: usize> Nodes<'_, VALUES> {
 
     /// Whether a number is further than 1 from the exact bilinear value at a point in the bounds.
     pub fn differs(&self, p: Point, value: usize, number: i32) -> bool {
-        let (row, u) = self.latitude.place(p.latitude);
-        let (column, v) = self.longitude.place(p.longitude);
+        let Place { row, column, u, v } = self.place(p);
         let (p, q) = (self.latitude.spacing, self.longitude.spacing);
         let weighed = |up: usize, right: usize, weight: i64| {
             let corner = self.values_at(row + up, column + right)[value];
@@ -118,7 +134,8 @@ impl<const VALUES: usize> Nodes<'_, VALUES> {
 
     /// Question 9 of a node's value.
     pub fn fits(value: usize, number: i32) -> bool {
-        number.unsigned_abs() <= limit(value, VALUES)
+        let is_height = value == HEIGHT;
+        number.unsigned_abs() <= if is_height { 1_000_000 } else { 10_000_000 }
     }
 }
 

@@ -1,13 +1,13 @@
 //! Edition 2: the corrections and the heights each on a grid of their own.
 
-use super::nodes::Point;
+use super::nodes::{Nodes, Point};
 use super::trailer::{all_axes, Trailer};
-use super::two_grids::{self, corrections_of, Source, TwoGrids};
+use super::two_grids::{self, Corrections, Source, TwoGrids};
 use super::{found, Number};
 use crate::Way;
 
-/// An opened image.
-struct Opened<'a>(TwoGrids<'a>);
+/// An opened image, with its corrections in nodes or otherwise.
+pub struct Opened<'a, Corrections>(pub TwoGrids<'a, Corrections>);
 
 // A function of its own, so that the other edition's code does not bear on its speed.
 #[inline(never)]
@@ -15,34 +15,37 @@ pub fn list(way: Way, image: &[u8], fixes: &[i64], answers: &mut [i64]) -> Numbe
     two_grids::list(open(image), way, fixes, answers)
 }
 
-impl Source for Opened<'_> {
+impl<C: Corrections> Source for Opened<'_, C> {
+    type Corrections = C;
     const STOP: i64 = 1;
     const BOUNDED: bool = true;
 
     #[inline]
-    fn two_grids(&self) -> &TwoGrids<'_> {
+    fn two_grids(&self) -> &TwoGrids<'_, C> {
         &self.0
     }
 
     #[inline]
     fn corrections(&self, p: Point) -> Result<[i64; 2], Number> {
-        corrections_of(&self.0.corrections, p)
+        self.0.corrections.at(p)
     }
 }
 
 // As above.
 #[inline(never)]
 pub fn grid_check(image: &[u8], findings: &mut [i64; 6]) -> Number {
-    found(findings, open(image).and_then(|grid| check(&grid.0)))
+    found(findings, open(image).and_then(|grid| grid.check()))
 }
 
-/// Question 9 over the nodes of both grids, then question 12 with each grid's own spacings.
-fn check(grid: &TwoGrids) -> Result<[i64; 6], Number> {
-    grid.judge_slopes(grid.steps()?)
+impl<C: Corrections> Opened<'_, C> {
+    /// Question 9 over the nodes of both grids, then question 12 with each grid's own spacings.
+    pub fn check(&self) -> Result<[i64; 6], Number> {
+        self.0.judge_slopes(self.0.steps()?)
+    }
 }
 
-/// Questions 1 to 6 of an image whose edition is 2 and whose kind is not 1 or 2.
-fn open(image: &[u8]) -> Result<Opened<'_>, Number> {
+/// Questions 1 to 6 of an image whose edition is 2 and whose kind is not 1, 2 or 3.
+fn open(image: &[u8]) -> Result<Opened<'_, Nodes<'_, 2>>, Number> {
     open_kind(image, 0).map(Opened)
 }
 

@@ -6,7 +6,7 @@ use super::Number;
 /// A value's largest steps between neighbours in latitude and in longitude.
 pub type Steps = [i64; 2];
 
-impl<const VALUES: usize> Nodes<'_, VALUES> {
+impl<const VALUES: usize, const HEIGHT: usize> Nodes<'_, VALUES, HEIGHT> {
     /// Question 9 over all nodes, and each value's largest steps.
     pub fn steps(&self) -> Result<[Steps; VALUES], Number> {
         let mut steps = [[0; 2]; VALUES];

@@ -1,26 +1,42 @@
 //! What images of edition 2 share, whatever the kind: their two grids, and the ways over them.
 
 use super::fix::{convert_all, judge_fix, Values};
-use super::nodes::{Nodes, Point};
+use super::nodes::{Heights, Nodes, Point};
 use super::slopes::Steps;
 use super::trailer::{Axes, Trailer};
 use super::Number;
 use crate::Way;
 
 /// The corrections and the heights of an opened image.
-pub struct TwoGrids<'a> {
-    pub corrections: Nodes<'a, 2>,
-    pub heights: Nodes<'a, 1>,
+pub struct TwoGrids<'a, Corrections = Nodes<'a, 2>> {
+    pub corrections: Corrections,
+    pub heights: Heights<'a>,
+}
+
+/// Corrections of one grid, in nodes or otherwise.
+pub trait Corrections {
+    /// Whether a point is in the bounds.
+    fn holds(&self, p: Point) -> bool;
+
+    /// Both at a point in the bounds, after question 9 of their cell.
+    fn at(&self, p: Point) -> Result<[i64; 2], Number>;
+
+    /// Question 9 of all, and the largest steps of both.
+    fn steps(&self) -> Result<[Steps; 2], Number>;
+
+    /// Question 12 of both.
+    fn judge_slopes(&self, steps: &[Steps; 2]) -> Result<(), Number>;
 }
 
 /// What a way asks of an opened image.
 pub trait Source {
+    type Corrections: Corrections;
     /// The stop rule's distance.
     const STOP: i64;
     /// Are questions 8, 10 and 15 put?
     const BOUNDED: bool;
 
-    fn two_grids(&self) -> &TwoGrids<'_>;
+    fn two_grids(&self) -> &TwoGrids<'_, Self::Corrections>;
 
     /// The corrections at a point, in their bounds where these are asked for, after question 9 of
     /// their cell.
@@ -62,8 +78,8 @@ pub fn list(
 fn out<S: Source>(source: &S, p: Point, height: i64) -> Result<Values, Number> {
     let grid = source.two_grids();
     judge_fix(p, height, 100_000_000)?;
-    if S::BOUNDED {
-        grid.corrections.judge_bounds(p, 8)?;
+    if S::BOUNDED && !grid.corrections.holds(p) {
+        return Err(8);
     }
     let mut last = p;
     for count in 1..=5 {
@@ -72,8 +88,8 @@ fn out<S: Source>(source: &S, p: Point, height: i64) -> Result<Values, Number> {
             latitude: p.latitude - north,
             longitude: p.longitude - east,
         };
-        if S::BOUNDED {
-            grid.corrections.judge_bounds(next, 10)?;
+        if S::BOUNDED && !grid.corrections.holds(next) {
+            return Err(10);
         }
         let north = (next.latitude - last.latitude).abs();
         let east = (next.longitude - last.longitude).abs();
@@ -88,19 +104,33 @@ fn out<S: Source>(source: &S, p: Point, height: i64) -> Result<Values, Number> {
 
 fn back<S: Source>(source: &S, q: Point, height: i64) -> Result<Values, Number> {
     judge_fix(q, height, 110_000_000)?;
-    if S::BOUNDED {
-        source.two_grids().corrections.judge_bounds(q, 8)?;
+    if S::BOUNDED && !source.two_grids().corrections.holds(q) {
+        return Err(8);
     }
     let [north, east] = source.corrections(q)?;
     let [height, number] = source.height(q, |it| height + it)?;
     Ok([q.latitude + north, q.longitude + east, height, 1, number])
 }
 
-/// The corrections of a grid at a point in its bounds, after question 9 of their cell.
-#[inline]
-pub fn corrections_of(nodes: &Nodes<2>, p: Point) -> Result<[i64; 2], Number> {
-    let cell = nodes.cell(p)?;
-    Ok([cell.value(0), cell.value(1)])
+impl Corrections for Nodes<'_, 2> {
+    #[inline]
+    fn holds(&self, p: Point) -> bool {
+        Nodes::holds(self, p)
+    }
+
+    #[inline]
+    fn at(&self, p: Point) -> Result<[i64; 2], Number> {
+        let cell = self.cell(p)?;
+        Ok([cell.value(0), cell.value(1)])
+    }
+
+    fn steps(&self) -> Result<[Steps; 2], Number> {
+        Nodes::steps(self)
+    }
+
+    fn judge_slopes(&self, steps: &[Steps; 2]) -> Result<(), Number> {
+        Nodes::judge_slopes(self, steps)
+    }
 }
 
 impl<'a> TwoGrids<'a> {
@@ -125,7 +155,7 @@ impl<'a> TwoGrids<'a> {
                 latitude,
                 longitude,
             },
-            heights: Nodes {
+            heights: Heights {
                 nodes: &image[first_height..end],
                 latitude: height_latitude,
                 longitude: height_longitude,
@@ -133,6 +163,13 @@ impl<'a> TwoGrids<'a> {
         })
     }
 
+    /// The bytes from the first node to the image's end.
+    pub fn length(&self) -> usize {
+        self.corrections.nodes.len() + self.heights.nodes.len() + 80
+    }
+}
+
+impl<C: Corrections> TwoGrids<'_, C> {
     /// Question 9 over the nodes of both grids, and the largest steps.
     pub fn steps(&self) -> Result<([Steps; 2], [Steps; 1]), Number> {
         Ok((self.corrections.steps()?, self.heights.steps()?))

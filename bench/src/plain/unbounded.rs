@@ -1,8 +1,8 @@
 //! Kind 2 of edition 2: fixes past the edge are answered too.
 
-use super::nodes::Point;
+use super::nodes::{Nodes, Point};
 use super::second::open_kind;
-use super::two_grids::{self, corrections_of, Source, TwoGrids};
+use super::two_grids::{self, Corrections, Source, TwoGrids};
 use super::{found, Number};
 use crate::Way;
 
@@ -15,12 +15,13 @@ pub fn list(way: Way, image: &[u8], fixes: &[i64], answers: &mut [i64]) -> Numbe
     two_grids::list(open_kind(image, 2).map(Opened), way, fixes, answers)
 }
 
-impl Source for Opened<'_> {
+impl<'a> Source for Opened<'a> {
+    type Corrections = Nodes<'a, 2>;
     const STOP: i64 = 1;
     const BOUNDED: bool = false;
 
     #[inline]
-    fn two_grids(&self) -> &TwoGrids<'_> {
+    fn two_grids(&self) -> &TwoGrids<'a> {
         &self.0
     }
 
@@ -28,7 +29,7 @@ impl Source for Opened<'_> {
     #[inline]
     fn corrections(&self, p: Point) -> Result<[i64; 2], Number> {
         if self.0.corrections.holds(p) {
-            corrections_of(&self.0.corrections, p)
+            self.0.corrections.at(p)
         } else {
             Ok([0, 0])
         }

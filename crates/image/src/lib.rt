@@ -21,7 +21,8 @@ ghost use mathlib.Core.List.{List};
 ghost use Prim.Native.Nat.{ℕ, _≤_};
 ghost use lib.ListN.{length};
 ghost use Rattle.rules.specs.Answers.{values};
-ghost use Rattle.rules.specs.Image.{twoGridTrailerOf, isNested, isUnbounded, layoutOf, twoGridLayoutOf, nestedLayoutOf, layoutFor};
+ghost use Rattle.rules.specs.Image.{twoGridTrailerOf, isNested, isUnbounded, isInPlanes, correctionStride, toLongitudes};
+ghost use Rattle.rules.specs.Image.{layoutOf, twoGridLayoutOf, nestedLayoutOf, layoutFor};
 ghost use Rattle.rules.specs.Questions.{question6, backsPass, allBacksPass, opening, openingTwo, openingNested, openedOf};
 ghost use Rattle.verdicts.specs.Verdict.{verdictOf};
 ghost use Rattle.image.specs.Planes.{planeAt};
@@ -119,16 +120,17 @@ fn nodes_layout(t: Trailer, size: u64) -> Layout
     }
 }
 
-// Edition 2's: a correction node has 8 bytes, a height node 4. By its kind it is unbounded.
+// Edition 2's: its correction nodes lie by its kind, and a height has 4 bytes. By its kind it is unbounded.
 fn two_grid_layout(t: TwoGridTrailer, size: u64) -> Layout
     requires { ⌜ backsPass t size ≡ true ⌝ }
-    ensures { λ r. ⌜ r ≡ twoGridLayoutOf (isUnbounded t) size (t .corrections .geometry) (t .heights .geometry) ⌝ }
+    ensures { λ r. ⌜ r ≡ twoGridLayoutOf (isInPlanes t) (isUnbounded t) size (t .corrections .geometry) (t .heights .geometry) ⌝ }
 {
     let c = t.corrections.geometry;
     let h = t.heights.geometry;
     let first = size - t.corrections.back;
-    let latitude = plane_at(c, first, 8);
-    let longitude = plane_at(c, first + 4, 8);
+    let stride = correction_stride(t);
+    let latitude = plane_at(c, first, stride);
+    let longitude = plane_at(c, first + to_longitudes(t, size), stride);
     let height = plane_at(h, size - t.heights.back, 4);
     let unbounded = is_unbounded(t);
     Layout {
@@ -144,7 +146,7 @@ fn two_grid_layout(t: TwoGridTrailer, size: u64) -> Layout
 
 // Kind 1's: the same, with the plane of the dense nodes.
 fn nested_layout(d: GridTrailer, t: TwoGridTrailer, size: u64) -> Layout
-    requires { ⌜ allBacksPass d t size ≡ true ⌝ }
+    requires { ⌜ (allBacksPass d t size ≡ true) × (isNested t ≡ true) ⌝ }
     ensures { λ r. ⌜ r ≡ nestedLayoutOf size (d .geometry) (t .corrections .geometry) (t .heights .geometry) ⌝ }
 {
     let l = two_grid_layout(t, size);
@@ -161,6 +163,26 @@ fn nested_layout(d: GridTrailer, t: TwoGridTrailer, size: u64) -> Layout
         longitude,
         height,
         dense,
+    }
+}
+
+// From one latitude correction to the next it is a node of 8 bytes; in kind 3, 4 bytes.
+fn correction_stride(t: TwoGridTrailer) -> u64
+    ensures { λ r. ⌜ r ≡ correctionStride (isInPlanes t) ⌝ }
+{
+    if is_in_planes(t) { 4 } else { 8 }
+}
+
+// The first longitude correction begins 4 bytes after the first latitude correction; in kind 3 after all of these, which are half of the
+// bytes from the correction nodes to the height nodes.
+fn to_longitudes(t: TwoGridTrailer, size: u64) -> u64
+    requires { ⌜ backsPass t size ≡ true ⌝ }
+    ensures { λ r. ⌜ r ≡ toLongitudes (isInPlanes t) (t .corrections .geometry) ⌝ }
+{
+    if is_in_planes(t) {
+        (t.corrections.back - t.heights.back) / 2
+    } else {
+        4
     }
 }
 
@@ -187,4 +209,11 @@ fn is_unbounded(t: TwoGridTrailer) -> bool
     ensures { λ r. ⌜ r ≡ isUnbounded t ⌝ }
 {
     t.kind == 2
+}
+
+// Kind 3 holds all latitude corrections, then all longitude corrections.
+fn is_in_planes(t: TwoGridTrailer) -> bool
+    ensures { λ r. ⌜ r ≡ isInPlanes t ⌝ }
+{
+    t.kind == 3
 }

@@ -4,6 +4,8 @@ use fixes::list_out;
 use notation::read_notation;
 use notation::write_notation;
 use ntv2::corrections_from_ntv2;
+use planes::nodes_from_planes;
+use planes::planes_from_nodes;
 use refusals::refusal_number;
 use rules::Checked;
 use rules::FileAnswer;
@@ -23,6 +25,7 @@ ghost use Rattle.rules.specs.Limits.{HandedBack, BothHandedBack};
 ghost use Rattle.rules.specs.Files.{fileAnswerOf, gridsAnswerOf, geometryAfter, geometriesAfter};
 ghost use Rattle.rules.specs.Vdatum.{heightsFrom, heightsAfter};
 ghost use Rattle.rules.specs.Ntv2.{correctionsFrom, correctionsAfter, denseCorrectionsAfter};
+ghost use Rattle.rules.specs.Planes.{planesFromNodes, planesAfter, nodesFromPlanes, nodesAfter};
 
 // The grid check: 0 with the six findings written, or the number.
 #[no_mangle]
@@ -143,6 +146,24 @@ pub extern "C" fn marker_corrections_from_ntv2(
         (now (geometry .entry)) ⌝ }
 {
     hand_back_both(corrections_from_ntv2(file, nodes, dense), geometry)
+}
+
+// An image of kind 3 from one of kind 0: 0 with the buffer written, or the number.
+#[no_mangle]
+pub extern "C" fn marker_planes_from_nodes(image: &[u8], buffer: &mut [u8]) -> i64
+    ensures number { λ r. ⌜ r ≡ statusOf (planesFromNodes (now (image .entry)) (length (now (buffer .entry)))) ⌝ }
+    ensures buffer { λ _. ⌜ now (buffer .exit) ≡ planesAfter (now (image .entry)) (now (buffer .entry)) ⌝ }
+{
+    planes_from_nodes(image, buffer)
+}
+
+// And one of kind 0 from one of kind 3, likewise.
+#[no_mangle]
+pub extern "C" fn marker_nodes_from_planes(image: &[u8], buffer: &mut [u8]) -> i64
+    ensures number { λ r. ⌜ r ≡ statusOf (nodesFromPlanes (now (image .entry)) (length (now (buffer .entry)))) ⌝ }
+    ensures buffer { λ _. ⌜ now (buffer .exit) ≡ nodesAfter (now (image .entry)) (now (buffer .entry)) ⌝ }
+{
+    nodes_from_planes(image, buffer)
 }
 
 // What the conversion of a VDatum file gives: 0 with the geometry written, or the number.

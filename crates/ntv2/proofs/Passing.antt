@@ -10,8 +10,9 @@ use borrow.Author.Tests.{leb-true, eqb-true}
 use Rattle.integers.specs.Booleans.{and-left, and-right}
 use Rattle.rules.specs.declared.FileGrids.{FileGrids}
 use Rattle.rules.specs.Answers.{values}
+use Rattle.rules.specs.Image.{nodeCount}
 use Rattle.rules.specs.Limits.{GeometryPasses, SmallGeometry, BothHandedBack}
-use Rattle.rules.specs.Ntv2.{noneText, overviewPasses, nameOf, parentOf, gridHeaderOf, nodeCount, headerPasses, gridPasses, closed}
+use Rattle.rules.specs.Ntv2.{noneText, overviewPasses, nameOf, parentOf, gridHeaderOf, headerPasses, gridPasses, closed}
 use Rattle.rules.specs.Ntv2.{firstGrid, subgridAfter, hasSubgrid, subgridPasses, restPasses, question18, subgridHeaderOf, gridsOf}
 use Rattle.rules.specs.Ntv2.{question19, correctionsFrom}
 use Rattle.rules.proofs.Answers.{asked}

@@ -14,10 +14,10 @@ use Rattle.rules.specs.declared.Geometry.{Geometry}
 use Rattle.rules.specs.declared.FileGrids.{FileGrids}
 use Rattle.rules.specs.Units.{correctionLimit}
 use Rattle.rules.specs.Answers.{values}
-use Rattle.rules.specs.Image.{rows, columns, plane}
+use Rattle.rules.specs.Image.{rows, columns, plane, nodeCount}
 use Rattle.rules.specs.Floats.{binary32, finite}
 use Rattle.rules.specs.Files.{bytesOf, inSequence}
-use Rattle.rules.specs.Ntv2.{nodeCount, firstGrid, subgridAfter, question18, gridsOf, latitudeShift, longitudeShift, latitudeFrom}
+use Rattle.rules.specs.Ntv2.{firstGrid, subgridAfter, question18, gridsOf, latitudeShift, longitudeShift, latitudeFrom}
 use Rattle.rules.specs.Ntv2.{longitudeFrom, shiftsFit, allShiftsFit, question19, fileNode, correctionNode, correctionRow, correctionNodes}
 use Rattle.rules.specs.Ntv2.{correctionsFrom, correctionsAfter, denseCorrectionsAfter}
 use Rattle.rules.proofs.Answers.{asked}

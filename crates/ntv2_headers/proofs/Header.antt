@@ -13,11 +13,12 @@ use Rattle.integers.specs.Booleans.{and-left, and-right, and-both, and-false}
 use Rattle.integers.specs.Difference.{var, lit, _⊖_, _⊕_}
 use Rattle.integers.specs.Machine.{zarith}
 use Rattle.rules.specs.Units.{latitudeLimit, longitudeLimit, spacingMost}
+use Rattle.rules.specs.Image.{nodeCount}
 use Rattle.rules.specs.Questions.{questions3To5}
 use Rattle.rules.specs.Limits.{AxisPasses, GeometryPasses}
 use Rattle.rules.specs.Files.{natural}
 use Rattle.rules.specs.Ntv2.{countAt, labelled, arcseconds, Extent, latitudeExtent, longitudeExtent, spacingOf, differenceOf, axisOf}
-use Rattle.rules.specs.Ntv2.{gridHeaderOf, whole, threeFinite, nodeCount, headerPasses}
+use Rattle.rules.specs.Ntv2.{gridHeaderOf, whole, threeFinite, headerPasses}
 use Rattle.rules.proofs.Files.{natural-most, questions-establish, both-axes}
 use Rattle.ntv2_headers.specs.Reading.{angleWithin, extentFits}
 

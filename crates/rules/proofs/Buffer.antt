@@ -2,7 +2,7 @@
 use mathlib.Core.List.{List, [], _++_, append-assoc, append-nil}
 use mathlib.Core.Bool.{true, false}
 use mathlib.Core.Logic.{⊎-elim}
-use mathlib.Core.Path.{_≡_, sym, ap, _∙_}
+use mathlib.Core.Path.{_≡_, refl, sym, ap, ap₂, _∙_}
 use Prim.Native.Nat.{ℕ, zero, suc, _+_, _*_, _/_, _%_, _≤_, _<_}
 use native.Mathlib.Nat.{div-div-eq-div-mul, eq-or-lt-of-le, le-of-suc-le-suc, mod-eq-of-lt, mul-zero, not-suc-le-zero}
 use native.Mathlib.Numerals.{add-one}
@@ -41,10 +41,13 @@ module _ (size : ℕ) (part : ℕ → List ℕ) where
   written-all buffer n h w = sym (take-all (size * n) buffer (omega arith)) ∙ w
 
   -- Part n stands after the parts before it.
-  pub parts-long : ((n : ℕ) → length (part n) ≡ size) → (n : ℕ) → length (inSequence part n) ≡ size * n
+  pub first-parts-long : (n : ℕ) → ((i : ℕ) → i < n → length (part i) ≡ size) → length (inSequence part n) ≡ size * n
   unfolding inSequence
-  parts-long s zero = omega arith
-  parts-long s (suc n) = rw length-append (omega (arith, parts-long s n, s n))
+  first-parts-long zero s = omega arith
+  first-parts-long (suc n) s = rw length-append (omega (arith, first-parts-long n (λ i l. s i (omega arith)), s n (omega arith)))
+
+  pub parts-long : ((n : ℕ) → length (part n) ≡ size) → (n : ℕ) → length (inSequence part n) ≡ size * n
+  parts-long s n = first-parts-long n (λ i l. s i)
 
   pub part-among : (count n : ℕ) → n < count → (rest : List ℕ) × (inSequence part count ≡ inSequence part n ++ (part n ++ rest))
   unfolding inSequence
@@ -53,6 +56,12 @@ module _ (size : ℕ) (part : ℕ → List ℕ) where
       ⊎-elim (λ e. ([], rw (append-nil (part n)) (ap (λ k. inSequence part k ++ part k) (sym e))))
       (λ k. let r = part-among m n k in (r .0 ++ part m, rw (r .1) (simp append-assoc)))
       (eq-or-lt-of-le (le-of-suc-le-suc l))
+
+-- The same parts are the same in sequence.
+pub parts-same : (n : ℕ) {part other : ℕ → List ℕ} → ((i : ℕ) → i < n → part i ≡ other i) → inSequence part n ≡ inSequence other n
+unfolding inSequence
+parts-same zero e = refl
+parts-same (suc n) e = ap₂ _++_ (parts-same n (λ i l. e i (omega arith))) (e n (omega arith))
 
 -- ---- the four bytes of a number
 

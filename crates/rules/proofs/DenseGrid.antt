@@ -98,7 +98,7 @@ pub record DenseGrid : Type 0 where
 pub record DenseGridOrder : Type 0 where
   -- a correction back that leaves less than 36 bytes before the correction nodes is a 1, before 3
   pub room-before-counts : opening (changed 260 241 96 1) ≡ number 1
-  pub kind-known : opening (changed 268 3 96 1) ≡ number 2
+  pub kind-known : opening (changed 268 4 96 1) ≡ number 2
   -- each of 3 to 6 of the dense grid comes before the next one of any grid
   pub dense-rows : opening (changed 96 1 215 255) ≡ number 3
   pub dense-columns : opening (changed 100 1 215 255) ≡ number 3

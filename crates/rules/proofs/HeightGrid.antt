@@ -117,7 +117,7 @@ pub record HeightGrid : Type 0 where
 pub record HeightGridOrder : Type 0 where
   -- 79 bytes of another kind, which stands at byte 244; that kind, and one correction row (196); an edition (248) that is not known
   pub length-before-kind : opening (drop 173 (set halfSpacing 244 1)) ≡ number 1
-  pub kind-before-counts : changed 244 3 196 1 ≡ number 2
+  pub kind-before-counts : changed 244 4 196 1 ≡ number 2
   pub edition-known : changed 248 3 248 3 ≡ number 2
   -- each question is put to both grids before the next one is: rows at 196 and 228, two bytes of the latitude
   -- spacing at 188 and 220, the highest byte of the southern bound at 179 and 211, the backs at 236 and 240

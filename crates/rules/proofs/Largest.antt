@@ -1,8 +1,8 @@
 -- Laws of `every` and `largest`: every one means each, and the largest bounds each.
 use mathlib.Core.Bool.{Bool, true, false, _&&_}
 use mathlib.Core.Logic.{_⊎_, ⊎-elim}
-use mathlib.Core.Path.{_≡_, refl, sym, _∙_}
-use Prim.Native.Nat.{ℕ, zero, suc, _+_, _-_, _≤_, _<_}
+use mathlib.Core.Path.{_≡_, refl, sym, ap₂, _∙_}
+use Prim.Native.Nat.{ℕ, zero, suc, _+_, _-_, _≤_, _<_, max}
 use native.Mathlib.Nat.{eq-or-lt-of-le, le-of-suc-le-suc, not-suc-le-zero}
 use native.Mathlib.Numerals.{add-one}
 use native.Mathlib.Omega.{arith}
@@ -31,6 +31,12 @@ every-missed n t i l e = by (every n t) refl
     by true h = sym (every-at n t h i l) ∙ e
     by false h = refl
 
+-- Tests that answer each alike answer every one alike.
+pub every-same : (n : ℕ) {s t : ℕ → Bool} → ((i : ℕ) → i < n → s i ≡ t i) → every n s ≡ every n t
+unfolding every
+every-same zero h = refl
+every-same (suc n) h = ap₂ _&&_ (every-same n (λ i l. h i (omega arith))) (h n (omega arith))
+
 -- Two tests of each are each test of every one.
 pub every-both : (n : ℕ) (s t : ℕ → Bool) → every n (λ i. s i && t i) ≡ (every n s && every n t)
 unfolding every
@@ -57,6 +63,11 @@ largest-most (suc n) f m h = omega (arith, h n (omega arith), largest-most n f m
 
 pub largest-none : (n : ℕ) (f : ℕ → ℕ) → ((i : ℕ) → f i ≡ 0) → largest n f ≡ 0
 largest-none n f h = let m = largest-most n f 0 (λ i l. omega (arith, h i)) in omega arith
+
+pub largest-same : (n : ℕ) {f h : ℕ → ℕ} → ((i : ℕ) → i < n → f i ≡ h i) → largest n f ≡ largest n h
+unfolding largest
+largest-same zero e = refl
+largest-same (suc n) e = ap₂ max (largest-same n (λ i l. e i (omega arith))) (e n (omega arith))
 
 -- Each number set beside the one before it, the first beside itself, gives the steps from each to the next.
 module _ (d : ℕ → ℕ → ℕ) (still : (i : ℕ) → d i i ≡ 0) where

@@ -1,10 +1,10 @@
 -- A list whose part was lent, to be read or to be written.
 use mathlib.Core.List.{List, _++_, append-assoc, append-nil}
-use mathlib.Core.Path.{_≡_, sym}
+use mathlib.Core.Path.{_≡_, sym, _∙_}
 use Prim.Native.Nat.{ℕ, _+_, _-_, _≤_}
 use native.Mathlib.Omega.{arith}
 use lib.ListN.{length, take, drop, length-append, length-drop}
-use lib.Seq.{take-all, take-at, length-take-le, take-append-seam, drop-append-seam, take-length, drop-length, drop-drop}
+use lib.Seq.{take-all, take-at, drop-at, length-take-le, take-append-seam, drop-append-seam, take-length, drop-length, drop-drop}
 
 -- The part of a list from n on, as a range leaves it; its length is what is left of the list.
 abbrev pub partFrom : {A : Type 0} → List A → ℕ → List A
@@ -15,6 +15,10 @@ part-from l n = take-all (length l - n) (drop n l) (omega (arith, length-drop n 
 
 pub part-length : {A : Type 0} (l : List A) (n : ℕ) → length (partFrom l n) ≡ length l - n
 part-length l n = rw (part-from l n) (length-drop n l)
+
+-- The length of a part that is in the list whole.
+pub taken-length : {A : Type 0} (n : ℕ) (l : List A) (at : ℕ) → at + n ≤ length l → length (take n (drop at l)) ≡ n
+taken-length n l at h = length-take-le n (drop at l) (omega (arith, length-drop at l))
 
 -- The front of a list whose part from n on was lent, and has v at its own front since.
 pub front : {A : Type 0} (l v rest post : List A) (n : ℕ) → n ≤ length l
@@ -34,3 +38,16 @@ two-fronts u v l =
     let x = drop n l in
     let k : length (u ++ x) - n ≡ length x = rw (length-append u x) (omega arith) in
     rw (take-append-seam u x, drop-append-seam u x, k, take-length x, drop-length x, append-nil, drop-drop n n l) (sym (append-assoc u v _))
+
+-- The first n elements of a list written, x, and then what was lent on after them, y: both are left.
+pub two-parts : {A : Type 0} (x y l : List A) (n : ℕ) → length x ≡ n →
+    let m = x ++ drop n l in
+    let rest = length m - n in
+    take n m ++ (y ++ drop rest (drop n m)) ≡ x ++ y
+two-parts x y l n h =
+    let k : length (x ++ drop n l) - n ≡ length (drop n l) = omega (arith, length-append x (drop n l)) in
+    rw (take-at x (drop n l) n h, drop-at x (drop n l) n h, k, drop-length (drop n l), append-nil)
+
+-- The length of what was lent on.
+pub second-part-length : {A : Type 0} (x l : List A) (n : ℕ) → length x ≡ n → length (partFrom (x ++ drop n l) n) ≡ length l - n
+second-part-length x l n h = part-length (x ++ drop n l) n ∙ omega (arith, length-append x (drop n l), length-drop n l)

@@ -3,6 +3,7 @@ pub mod Examples
 pub mod HeightGrid
 pub mod DenseGrid
 pub mod PastTheEdge
+pub mod InPlanes
 pub mod VdatumFile
 pub mod Ntv2File
 pub mod Accepted

@@ -1,5 +1,5 @@
 -- What questions 1 to 6, and 20, establish in both editions: each question before the layout was answered yes.
-use mathlib.Core.Bool.{Bool, true, false, false≢true}
+use mathlib.Core.Bool.{Bool, true, false, cond, false≢true}
 use mathlib.Core.List.{List}
 use mathlib.Core.Path.{_≡_, refl, sym, ap, subst, _∙_}
 use Prim.Native.Nat.{ℕ, _+_, _-_, _*_, _≤_}
@@ -17,9 +17,10 @@ use Rattle.rules.specs.declared.TwoGridTrailer.{TwoGridTrailer}
 use Rattle.rules.specs.declared.Layout.{Layout}
 use Rattle.rules.specs.Units.{latitudeLimit, countMost, spacingMost, between, within}
 use Rattle.rules.specs.Answers.{values}
-use Rattle.rules.specs.Image.{trailerOf, editionOf, twoGridTrailerOf, isNested, isUnbounded, denseTrailerOf}
-use Rattle.rules.specs.Image.{farBound, rows, columns}
-use Rattle.rules.specs.Image.{backOf, heightBackOf, correctionBackOf, denseBackOf, layoutOf, twoGridLayoutOf, nestedLayoutOf}
+use Rattle.rules.specs.Image.{trailerOf, editionOf, twoGridTrailerOf, isNested, isUnbounded, isInPlanes, denseTrailerOf}
+use Rattle.rules.specs.Image.{farBound, rows, columns, correctionStride, toLongitudes}
+use Rattle.rules.specs.Image.{backOf, heightBackOf, correctionBackOf, denseBackOf, layoutOf, twoGridLayoutOf}
+use Rattle.rules.specs.Image.{nestedLayoutOf, layoutFor}
 use Rattle.rules.specs.Dense.{question20}
 use Rattle.rules.proofs.Answers.{asked}
 use Rattle.rules.specs.Questions.{question1, question2, question3, question4, boundsWithin, question5, backPasses, question6, judge}
@@ -117,18 +118,40 @@ laid size g passes h =
       not-nested = λ k. refl;
     }
 
-laid-two : (unbounded : Bool) (size : ℕ) (c h : Geometry) → GeometryPasses c → GeometryPasses h → correctionBackOf c h ≤ size
-    → Open size (twoGridLayoutOf unbounded size c h)
-laid-two unbounded size c h c-passes h-passes l =
+-- Edition 2's corrections, node by node and in planes: the latitude corrections are in the image, so are the longitude corrections, and so
+-- is the value 4 bytes after each latitude correction.
+record CorrectionsLaid (inPlanes : Bool) (size first : ℕ) (c : Geometry) : Type 0 where
+  latitude : InImage size (record { geometry = c; first = first; stride = correctionStride inPlanes })
+  longitude : InImage size (record { geometry = c; first = first + toLongitudes inPlanes c; stride = correctionStride inPlanes })
+  beside : InImage size (record { geometry = c; first = first + 4; stride = correctionStride inPlanes })
+
+laid-corrections : (inPlanes : Bool) (size first : ℕ) (c : Geometry) → GeometryPasses c → first + 8 * (rows c * columns c) ≤ size
+    → CorrectionsLaid inPlanes size first c
+laid-corrections false size first c passes nodes =
+    let longitude = in-nodes size first 4 8 c passes nodes (omega arith) in
+    record { latitude = at-nodes size first 8 c passes nodes (omega arith); longitude = longitude; beside = longitude }
+laid-corrections true size first c passes nodes =
+    let row : 1 ≤ rows c = omega (arith, passes .latitude .sized .count-least) in
+    let column : 1 ≤ columns c = omega (arith, passes .longitude .sized .count-least) in
+    let node : 1 ≤ rows c * columns c = mul-le-mul {n₁ = 1} {m₁ = 1} row column in
+    record {
+      latitude = at-nodes size first 4 c passes (omega arith) (omega arith);
+      longitude = at-nodes size (first + 4 * rows c * columns c) 4 c passes (omega arith) (omega arith);
+      beside = at-nodes size (first + 4) 4 c passes (omega arith) (omega arith);
+    }
+
+laid-two : (inPlanes unbounded : Bool) (size : ℕ) (c h : Geometry) → GeometryPasses c → GeometryPasses h → correctionBackOf c h ≤ size
+    → Open size (twoGridLayoutOf inPlanes unbounded size c h)
+laid-two inPlanes unbounded size c h c-passes h-passes l =
     let first = size - correctionBackOf c h in
-    let nodes : first + 8 * (rows c * columns c) ≤ size = omega arith in
+    let corrections = laid-corrections inPlanes size first c c-passes (omega arith) in
     let heights : size - heightBackOf h + 4 * (rows h * columns h) ≤ size = omega arith in
     record {
-      latitude = at-nodes size first 8 c c-passes nodes (omega arith);
-      longitude = in-nodes size first 4 8 c c-passes nodes (omega arith);
+      latitude = corrections .latitude;
+      longitude = corrections .longitude;
       height = at-nodes size (size - heightBackOf h) 4 h h-passes heights (omega arith);
-      dense = at-nodes size first 8 c c-passes nodes (omega arith);
-      dense-longitude = in-nodes size first 4 8 c c-passes nodes (omega arith);
+      dense = corrections .latitude;
+      dense-longitude = corrections .beside;
       longitude-geometry = refl;
       height-geometry = λ one. absurd (false≢true (sym one));
       nests = λ k. absurd (false≢true k);
@@ -139,7 +162,7 @@ laid-two unbounded size c h c-passes h-passes l =
 laid-nested : (size : ℕ) (d c h : Geometry) → GeometryPasses d → GeometryPasses c → GeometryPasses h → denseBackOf d c h ≤ size
     → question20 c d ≡ true → Open size (nestedLayoutOf size d c h)
 laid-nested size d c h d-passes c-passes h-passes l aligned =
-    let two = laid-two false size c h c-passes h-passes (omega arith) in
+    let two = laid-two false false size c h c-passes h-passes (omega arith) in
     let first = size - denseBackOf d c h in
     let nodes : first + 8 * (rows d * columns d) ≤ size = omega arith in
     record {
@@ -222,7 +245,7 @@ all-pass d t h3 h4 h5 =
 -- An edition 2 image that opens.
 pub record OpenedTwo (t : TwoGridTrailer) (size : ℕ) (l : Layout) : Type 0 where
   pub is-open : Open size l
-  pub layout : twoGridLayoutOf (isUnbounded t) size (t .corrections .geometry) (t .heights .geometry) ≡ l
+  pub layout : twoGridLayoutOf (isInPlanes t) (isUnbounded t) size (t .corrections .geometry) (t .heights .geometry) ≡ l
   pub bytes : backsPass t size ≡ true
 
 judged-two : (t : TwoGridTrailer) (size : ℕ) (l : Layout) → judgeTwo t size ≡ values l → OpenedTwo t size l
@@ -235,9 +258,9 @@ judged-two t size l k =
     let h4 = asked (ofBoth question4 t) 4 _ l (h3 .1) in
     let h5 = asked (ofBoth question5 t) 5 _ l (h4 .1) in
     let h6 = asked (backsPass t size) 6 _ l (h5 .1) in
-    let e : twoGridLayoutOf (isUnbounded t) size c h ≡ l = cc in
+    let e : twoGridLayoutOf (isInPlanes t) (isUnbounded t) size c h ≡ l = cc in
     let both = both-pass t (h3 .0) (h4 .0) (h5 .0) in
-    let o = laid-two (isUnbounded t) size c h (both .0) (both .1) (omega (arith, backs-are t size (h6 .0) .0)) in
+    let o = laid-two (isInPlanes t) (isUnbounded t) size c h (both .0) (both .1) (omega (arith, backs-are t size (h6 .0) .0)) in
     record { is-open = subst (Open size) e o; layout = e; bytes = h6 .0 }
 
 -- A kind 1 image that opens.
@@ -264,7 +287,7 @@ judged-nested d t size l enough k =
     let o = laid-nested size (d .geometry) c h (all .1) (all .0 .0) (all .0 .1) back (h20 .0) in
     record { is-open = subst (Open size) e o; layout = e; enough = enough; bytes = h6 .0 }
 
--- Edition 2: an image that opens is of kind 0 or 2, or of kind 1.
+-- Edition 2: an image that opens is of kind 0, 2 or 3, or of kind 1.
 by-kind : {G : Type 0} (b : List ℕ) (l : Layout) → openingTwo b ≡ values l
     → (80 ≤ length b → isNested (twoGridTrailerOf b) ≡ false → OpenedTwo (twoGridTrailerOf b) (length b) l → G)
     → (80 ≤ length b → isNested (twoGridTrailerOf b) ≡ true → OpenedNested (denseTrailerOf b) (twoGridTrailerOf b) (length b) l → G) → G
@@ -281,29 +304,67 @@ by-kind b l h two nested =
 
 -- An image that opens is of edition 1 or of edition 2; by its layout's flag it is known which.
 by-edition : {G : Type 0} (b : List ℕ) (l : Layout) → opening b ≡ values l
-    → (40 ≤ length b → OpenedOne (trailerOf b) (length b) l → G) → (openingTwo b ≡ values l → G) → G
+    → (eqb (editionOf b) 2 ≡ false → 40 ≤ length b → OpenedOne (trailerOf b) (length b) l → G)
+    → (eqb (editionOf b) 2 ≡ true → openingTwo b ≡ values l → G) → G
 unfolding opening
 by-edition b l h one two =
     let k = asked (question1 (length b)) 1 _ l h in
     branched (eqb (editionOf b) 2) _ _ _ (k .1)
-    (λ second e. two e) (λ first e. one (leb-true 40 (length b) (k .0)) (judged (trailerOf b) (length b) l e))
+    two (λ first e. one first (leb-true 40 (length b) (k .0)) (judged (trailerOf b) (length b) l e))
 
 pub opened : (b : List ℕ) (l : Layout) → opening b ≡ values l → Open (length b) l
-opened b l h = by-edition b l h (λ _ o. o .is-open) (λ e. by-kind b l e (λ _ _ o. o .is-open) (λ _ _ o. o .is-open))
+opened b l h = by-edition b l h (λ _ _ o. o .is-open) (λ _ e. by-kind b l e (λ _ _ o. o .is-open) (λ _ _ o. o .is-open))
+
+-- Edition 2's heights stand on a separate grid.
+two-separate : (b : List ℕ) (l : Layout) → openingTwo b ≡ values l → true ≡ l .separate
+two-separate b l k =
+    by-kind b l k (λ _ _ o. ap (λ (l : Layout). l .separate) (o .layout)) (λ _ _ o. ap (λ (l : Layout). l .separate) (o .layout))
+
+pub two-layout-separate : (b : List ℕ) → layoutFor b true .separate ≡ true
+two-layout-separate b = by (isNested (twoGridTrailerOf b)) _ _ refl refl
+  where
+    by : (t : Bool) (x y : Layout) → x .separate ≡ true → y .separate ≡ true → cond t x y .separate ≡ true
+    by true x y h k = h
+    by false x y h k = k
 
 -- What the functions that read the layout ask of an image that opened, of each edition and kind.
 pub opened-one : (b : List ℕ) (l : Layout) → opening b ≡ values l → l .separate ≡ false
     → (40 ≤ length b) × (question6 (trailerOf b) (length b) ≡ true)
 opened-one b l h e =
-    by-edition b l h (λ enough o. (enough, o .bytes)) (λ k.
-    let second : true ≡ l .separate =
-    by-kind b l k (λ _ _ o. ap (λ (l : Layout). l .separate) (o .layout)) (λ _ _ o. ap (λ (l : Layout). l .separate) (o .layout)) in
-    absurd (false≢true (sym (second ∙ e))))
+    by-edition b l h (λ _ enough o. (enough, o .bytes)) (λ _ k. absurd (false≢true (sym (two-separate b l k ∙ e))))
+
+-- The edition, by the flag.
+pub edition-is : (b : List ℕ) (l : Layout) → opening b ≡ values l → eqb (editionOf b) 2 ≡ l .separate
+edition-is b l h =
+    by-edition b l h (λ first _ o. first ∙ ap (λ (l : Layout). l .separate) (o .layout)) (λ second k. second ∙ two-separate b l k)
+
+-- Where edition 2's first nodes lie: as far from the image's end as the trailer says, all corrections before the heights.
+pub record FirstNodes (t : TwoGridTrailer) (size : ℕ) (l : Layout) : Type 0 where
+  pub corrections : l .latitude .first ≡ size - t .corrections .back
+  pub heights : l .height .first ≡ size - t .heights .back
+  pub between : t .corrections .back ≡ 8 * (rows (l .latitude .geometry) * columns (l .latitude .geometry)) + t .heights .back
+  pub enough : t .corrections .back ≤ size
+  pub trailer : 80 ≤ t .heights .back
+
+nodes-placed : (t : TwoGridTrailer) (size : ℕ) (l : Layout) → backsPass t size ≡ true →
+    let c = t .corrections .geometry in
+    let h = t .heights .geometry in
+    l .latitude .geometry ≡ c → l .latitude .first ≡ size - correctionBackOf c h → l .height .first ≡ size - heightBackOf h
+    → FirstNodes t size l
+nodes-placed t size l passes g x y =
+    let backs = backs-are t size passes in
+    record {
+      corrections = rw (backs .0 .0) x;
+      heights = rw (backs .1 .0) y;
+      between = rw g (omega (arith, backs));
+      enough = backs .0 .1;
+      trailer = omega (arith, backs);
+    }
 
 module _ (b : List ℕ) (l : Layout) (h : opening b ≡ values l) (e : l .separate ≡ true) where
   of-two : openingTwo b ≡ values l
   of-two =
-      by-edition b l h (λ _ o. absurd (false≢true (ap (λ (l : Layout). l .separate) (o .layout) ∙ e))) (λ k. k)
+      by-edition b l h (λ _ _ o. absurd (false≢true (ap (λ (l : Layout). l .separate) (o .layout) ∙ e))) (λ _ k. k)
 
   pub opened-long : 80 ≤ length b
   opened-long = by-kind b l of-two (λ long _ _. long) (λ long _ _. long)
@@ -313,3 +374,11 @@ module _ (b : List ℕ) (l : Layout) (h : opening b ≡ values l) (e : l .separa
 
   pub opened-nested : isNested (twoGridTrailerOf b) ≡ true → OpenedNested (denseTrailerOf b) (twoGridTrailerOf b) (length b) l
   opened-nested one = by-kind b l of-two (λ _ none _. absurd (false≢true (sym none ∙ one))) (λ _ _ o. o)
+
+  pub first-nodes : FirstNodes (twoGridTrailerOf b) (length b) l
+  first-nodes =
+      by-kind b l of-two
+      (λ _ _ o. subst (FirstNodes (twoGridTrailerOf b) (length b)) (o .layout) (nodes-placed _ _ _ (o .bytes) refl refl refl))
+      (λ _ _ o.
+      let passes = all-backs-are _ _ _ (o .bytes) .0 in
+      subst (FirstNodes (twoGridTrailerOf b) (length b)) (o .layout) (nodes-placed _ _ _ passes refl refl refl))

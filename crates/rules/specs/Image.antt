@@ -1,4 +1,4 @@
--- Document 01, "Units and the image", and notes 1, 5 and 6 of document 02: little-endian numbers, the trailers of both editions, the
+-- Document 01, "Units and the image", and notes 1, 5, 6 and 8 of document 02: little-endian numbers, the trailers of both editions, the
 -- geometry and its bounds, where the values lie, the grid.
 use mathlib.Core.Bool.{Bool, true, false, cond}
 use mathlib.Core.List.{List}
@@ -70,7 +70,12 @@ isNested t = eqb (t .kind) 1
 abbrev pub isUnbounded : TwoGridTrailer → Bool
 isUnbounded t = eqb (t .kind) 2
 
--- Its geometry and, at 32, back to its nodes stand in the 36 bytes directly before the correction nodes, by the trailer's back to these.
+-- Kind 3 holds all latitude corrections, then all longitude corrections, and answers as kind 0 does.
+abbrev pub isInPlanes : TwoGridTrailer → Bool
+isInPlanes t = eqb (t .kind) 3
+
+-- Kind 1's dense geometry and, at 32, back to its nodes stand in the 36 bytes directly before the correction nodes, by the trailer's back to
+-- these.
 unfoldable pub denseTrailerOf : List ℕ → GridTrailer
 denseTrailerOf b =
     let at = length b - (36 + twoGridTrailerOf b .corrections .back) in
@@ -97,6 +102,9 @@ rows g = g .latitude .count
 
 abbrev pub columns : Geometry → ℕ
 columns g = g .longitude .count
+
+abbrev pub nodeCount : Geometry → ℕ
+nodeCount g = rows g * columns g
 
 -- Edition 1: the bytes from the image's end back to the first node: nodes of 12 bytes, then the trailer of 40.
 abbrev pub backOf : Geometry → ℕ
@@ -129,24 +137,34 @@ layoutOf size g =
     }
 
 -- Edition 2's: a correction node is latitude correction and longitude correction, a height node the height; correction nodes, height nodes
--- and trailer touch each other. Kind 2's is the same, but unbounded.
-abbrev pub twoGridLayoutOf : (unbounded : Bool) → (size : ℕ) → (corrections heights : Geometry) → Layout
-twoGridLayoutOf unbounded size c h =
+-- and trailer touch each other. So from one latitude correction to the next it is 8 bytes, and the first longitude correction begins 4
+-- bytes after the first latitude correction. In kind 3 it is 4 bytes, and the first longitude correction begins after all latitude
+-- corrections.
+abbrev pub correctionStride : (inPlanes : Bool) → ℕ
+correctionStride inPlanes = cond inPlanes 4 8
+
+abbrev pub toLongitudes : (inPlanes : Bool) → Geometry → ℕ
+toLongitudes inPlanes c = cond inPlanes (4 * rows c * columns c) 4
+
+-- Kind 2's is that of kind 0, but unbounded.
+abbrev pub twoGridLayoutOf : (inPlanes unbounded : Bool) → (size : ℕ) → (corrections heights : Geometry) → Layout
+twoGridLayoutOf inPlanes unbounded size c h =
     let first = size - correctionBackOf c h in
+    let stride = correctionStride inPlanes in
     record {
       separate = true;
       nested = false;
       unbounded = unbounded;
-      latitude = record { geometry = c; first = first; stride = 8 };
-      longitude = record { geometry = c; first = first + 4; stride = 8 };
+      latitude = record { geometry = c; first = first; stride = stride };
+      longitude = record { geometry = c; first = first + toLongitudes inPlanes c; stride = stride };
       height = record { geometry = h; first = size - heightBackOf h; stride = 4 };
-      dense = record { geometry = c; first = first; stride = 8 };
+      dense = record { geometry = c; first = first; stride = stride };
     }
 
--- Kind 1's: the same, with a dense grid whose nodes are correction nodes.
+-- Kind 1's: as kind 0's, with a dense grid whose nodes are correction nodes.
 abbrev pub nestedLayoutOf : (size : ℕ) → (dense corrections heights : Geometry) → Layout
 nestedLayoutOf size d c h =
-    let l = twoGridLayoutOf false size c h in
+    let l = twoGridLayoutOf false false size c h in
     record {
       separate = true;
       nested = true;
@@ -163,7 +181,9 @@ layoutFor b true =
     let t = twoGridTrailerOf b in
     let c = t .corrections .geometry in
     let h = t .heights .geometry in
-    cond (isNested t) (nestedLayoutOf (length b) (denseTrailerOf b .geometry) c h) (twoGridLayoutOf (isUnbounded t) (length b) c h)
+    cond (isNested t)
+    (nestedLayoutOf (length b) (denseTrailerOf b .geometry) c h)
+    (twoGridLayoutOf (isInPlanes t) (isUnbounded t) (length b) c h)
 layoutFor b false = layoutOf (length b) (trailerOf b .geometry)
 
 -- The plane of longitude corrections whose nodes begin with the latitude corrections of a plane.

@@ -19,6 +19,7 @@
 --     leb ltb eqb, leZ ltZ     the answer, true or false, to: at most, below, equal, on ℕ; at most, below, on ℤ
 --     _&&_ _||_ cond           and, or; `cond t a b` is a where t is true, else b
 --     [], x ∷ l, l ++ k        lists: none, x before l, l before k; `length`; `getD l i d`, element i, counted from 0, or d past the end
+--                              `take n l`, its first n, `drop n l`, the rest; `set l i x`, l with x for element i
 --     "A B", code              a text, `text.[]` or a letter `text._∷_` a text; the ASCII code of a letter
 --     _≡_ _≤_ _≤ℤ_, ⊥          claims: equal, at most; the one that never holds; `refl` proves what computes to the same
 -- `abbrev`, `unfoldable` and `unfolding` say where the checker sees through a definition; they do not change what it is.
@@ -48,6 +49,7 @@ pub mod Floats
 pub mod Files
 pub mod Vdatum
 pub mod Ntv2
+pub mod Planes
 pub mod Promise
 pub mod Trip
 pub mod Figures

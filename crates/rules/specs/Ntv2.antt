@@ -15,7 +15,7 @@ use Rattle.rules.specs.declared.FileGrids.{FileGrids}
 use Rattle.rules.specs.declared.Scale.{Scale}
 use Rattle.rules.specs.Units.{within, correctionLimit}
 use Rattle.rules.specs.Answers.{Outcome, values, ask, andThen, after}
-use Rattle.rules.specs.Image.{u32At, u64At, i32At, rows, columns}
+use Rattle.rules.specs.Image.{u32At, u64At, i32At, rows, columns, nodeCount}
 use Rattle.rules.specs.Questions.{questions3To5}
 use Rattle.rules.specs.Check.{every}
 use Rattle.rules.specs.Floats.{binary32, binary64, finite, Fraction, valueOf, nearest}
@@ -133,9 +133,6 @@ threeFinite b start end spacing =
     finite binary64 (u64At b start) && (finite binary64 (u64At b end) && finite binary64 (u64At b spacing))
 
 -- The header: its labels, and a geometry that is finite, whole, within questions 3 to 5 and of GS_COUNT nodes.
-abbrev pub nodeCount : Geometry → ℕ
-nodeCount g = rows g * columns g
-
 unfoldable pub headerPasses : List ℕ → Bool
 headerPasses g =
     let geometry = gridHeaderOf g in

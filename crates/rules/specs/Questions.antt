@@ -1,5 +1,5 @@
--- Document 01, "Questions in order": questions 1 to 6, which every call that takes an image puts first; and notes 1, 5 and 6 of document
--- 02: edition 2 puts them to both of its grids, the correction grid first in each and a dense grid last, and then question 20.
+-- Document 01, "Questions in order": questions 1 to 6, which every call that takes an image puts first; and notes 1, 5, 6 and 8 of
+-- document 02: edition 2 puts them to both of its grids, the correction grid first in each and a dense grid last, and then question 20.
 use mathlib.Core.Bool.{Bool, cond, _&&_, _||_}
 use mathlib.Core.List.{List}
 use Prim.Native.Nat.{ℕ, _+_}
@@ -15,7 +15,7 @@ use Rattle.rules.specs.declared.Opened.{Opened}
 use Rattle.rules.specs.declared.Opened.the-variants as opened
 use Rattle.rules.specs.Units.{latitudeLimit, longitudeLimit, countMost, spacingMost, between, within}
 use Rattle.rules.specs.Answers.{Outcome, values, number, ask, numberOf}
-use Rattle.rules.specs.Image.{trailerOf, editionOf, twoGridTrailerOf, isNested, isUnbounded, denseTrailerOf}
+use Rattle.rules.specs.Image.{trailerOf, editionOf, twoGridTrailerOf, isNested, isUnbounded, isInPlanes, denseTrailerOf}
 use Rattle.rules.specs.Image.{farBound, rows, columns}
 use Rattle.rules.specs.Image.{backOf, heightBackOf, correctionBackOf, denseBackOf}
 use Rattle.rules.specs.Image.{layoutOf, twoGridLayoutOf, nestedLayoutOf, layoutFor}
@@ -70,7 +70,7 @@ abbrev pub lengthOfTwo : ℕ → Bool
 lengthOfTwo size = leb 80 size
 
 abbrev pub kindKnown : TwoGridTrailer → Bool
-kindKnown t = eqb (t .kind) 0 || isUnbounded t
+kindKnown t = eqb (t .kind) 0 || (isUnbounded t || isInPlanes t)
 
 -- A question of the correction grid, and the same of the height grid.
 abbrev pub ofBoth : (Geometry → Bool) → TwoGridTrailer → Bool
@@ -83,7 +83,7 @@ backsPass t size =
     let h = t .heights in
     backPasses (c .back) (correctionBackOf (c .geometry) (h .geometry)) size && backPasses (h .back) (heightBackOf (h .geometry)) size
 
--- Edition 2's questions 2 to 6, of kinds 0 and 2.
+-- Edition 2's questions 2 to 6, of kinds 0, 2 and 3.
 unfoldable pub judgeTwo : TwoGridTrailer → ℕ → Outcome Layout
 judgeTwo t size =
     ask (kindKnown t) 2
@@ -91,7 +91,7 @@ judgeTwo t size =
     (ask (ofBoth question4 t) 4
     (ask (ofBoth question5 t) 5
     (ask (backsPass t size) 6
-    (values (twoGridLayoutOf (isUnbounded t) size (t .corrections .geometry) (t .heights .geometry)))))))
+    (values (twoGridLayoutOf (isInPlanes t) (isUnbounded t) size (t .corrections .geometry) (t .heights .geometry)))))))
 
 -- Kind 1. A length below 36 plus the correction nodes' back, as the trailer has it, is a 1.
 abbrev pub lengthOfNested : TwoGridTrailer → ℕ → Bool
@@ -122,7 +122,7 @@ openingNested b =
     let t = twoGridTrailerOf b in
     ask (lengthOfNested t (length b)) 1 (judgeNested (denseTrailerOf b) t (length b))
 
--- Edition 2, question 1 first; a kind that is not 1 is judged as kinds 0 and 2 are.
+-- Edition 2, question 1 first; a kind that is not 1 is judged as kinds 0, 2 and 3 are.
 unfoldable pub openingTwo : List ℕ → Outcome Layout
 openingTwo b =
     let t = twoGridTrailerOf b in

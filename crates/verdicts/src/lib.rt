@@ -12,7 +12,7 @@ ghost use mathlib.Core.Path.{_≡_};
 ghost use mathlib.Core.Bool.{true};
 ghost use Prim.Native.Nat.{_*_, _≤_};
 ghost use Rattle.rules.specs.Units.{countMost};
-ghost use Rattle.rules.specs.Image.{rows, columns, isUnbounded, layoutOf, twoGridLayoutOf, nestedLayoutOf};
+ghost use Rattle.rules.specs.Image.{rows, columns, isUnbounded, isInPlanes, layoutOf, twoGridLayoutOf, nestedLayoutOf};
 ghost use Rattle.rules.specs.Questions.{question2, question3, question4, question5, question6, judge};
 ghost use Rattle.rules.specs.Questions.{kindKnown, ofBoth, backPasses, backsPass, judgeTwo, ofAll, allBacksPass, judgeNested};
 ghost use Rattle.verdicts.specs.Verdict.{verdictOf};
@@ -48,7 +48,7 @@ pub fn judged(t: Trailer, size: u64) -> Verdict
 
 // Edition 2's questions 2 to 6, each of the correction grid and then of the height grid.
 pub fn judged_two(t: TwoGridTrailer, size: u64) -> Verdict
-    ensures { λ r. ⌜ verdictOf (twoGridLayoutOf (isUnbounded t) size (t .corrections .geometry) (t .heights .geometry)) r
+    ensures { λ r. ⌜ verdictOf (twoGridLayoutOf (isInPlanes t) (isUnbounded t) size (t .corrections .geometry) (t .heights .geometry)) r
         ≡ judgeTwo t size ⌝ }
 {
     if !kind_passes(t) {
@@ -99,11 +99,14 @@ fn edition_passes(t: Trailer) -> bool
     t.edition == 1
 }
 
-// Edition 2's, of kinds 0 and 2.
+// Edition 2's, of kinds 0, 2 and 3.
 fn kind_passes(t: TwoGridTrailer) -> bool
     ensures { λ r. ⌜ r ≡ kindKnown t ⌝ }
 {
-    if t.kind == 0 { true } else { t.kind == 2 }
+    if t.kind == 0 {
+        return true;
+    }
+    if t.kind == 2 { true } else { t.kind == 3 }
 }
 
 // Question 6, of an image of so many bytes.

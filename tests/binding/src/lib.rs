@@ -46,6 +46,22 @@ macro_rules! list_calls {
 
 list_calls!(marker_list_out, marker_list_back);
 
+/// Declares the conversions of images, which are alike but for their names.
+macro_rules! image_conversions {
+    ($($name:ident),*) => {
+        extern "C" {
+            $(pub fn $name(
+                image: *const u8,
+                image_length: usize,
+                buffer: *mut u8,
+                buffer_length: usize,
+            ) -> i64;)*
+        }
+    };
+}
+
+image_conversions!(marker_planes_from_nodes, marker_nodes_from_planes);
+
 extern "C" {
     pub fn marker_grid_check(image: *const u8, image_length: usize, findings: *mut i64) -> i64;
     pub fn marker_read_notation(

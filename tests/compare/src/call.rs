@@ -3,7 +3,7 @@
 use crate::lent::Lent;
 use crate::random::Random;
 use crate::{Converter, File, FileRoom, Way};
-use reference::{Axis, Notation, Number};
+use reference::{Arrangement, Axis, Notation, Number};
 
 /// What a list call is given.
 #[derive(Clone, Debug, PartialEq, Eq)]
@@ -14,6 +14,16 @@ pub struct List {
     pub answers_length: usize,
 }
 
+/// What the conversion of an image into another arrangement of its corrections is given, and fixes
+/// by which the images before and after it are compared.
+#[derive(Clone, Debug, PartialEq, Eq)]
+pub struct Arranging {
+    pub arrangement: Arrangement,
+    pub image: Vec<u8>,
+    pub buffer_length: usize,
+    pub fixes: Vec<i64>,
+}
+
 /// A call with all that it is given.
 #[derive(Clone, Debug, PartialEq, Eq)]
 pub enum Call {
@@ -22,10 +32,11 @@ pub enum Call {
     ReadNotation { axis: Axis, notation: Notation },
     WriteNotation { axis: Axis, nd: i64 },
     ConvertFile(File),
+    Arrange(Arranging),
 }
 
-/// What a call did: its number, what the memory lent for its values, for nodes and for those of a
-/// subgrid holds afterwards, and whether the memory lent for reading and everything beside the lent
+/// What a call did: its number, what the memory lent for its values, for nodes or an image and for
+/// the nodes of a subgrid holds afterwards, and whether the memory lent for reading and everything beside the lent
 /// parts is unchanged.
 #[derive(Clone, Debug, PartialEq, Eq)]
 pub struct Outcome {
@@ -43,7 +54,9 @@ impl Call {
     /// The image that the call takes, if it takes one.
     pub fn image(&self) -> Option<&[u8]> {
         match self {
-            Call::GridCheck { image } | Call::List(List { image, .. }) => Some(image),
+            Call::GridCheck { image }
+            | Call::List(List { image, .. })
+            | Call::Arrange(Arranging { image, .. }) => Some(image),
             Call::ReadNotation { .. } | Call::WriteNotation { .. } => None,
             Call::ConvertFile(_) => None,
         }
@@ -71,6 +84,7 @@ impl Call {
             }
             Call::WriteNotation { axis, nd } => perform_writing(converter, *axis, *nd),
             Call::ConvertFile(file) => perform_file(converter, file, shift),
+            Call::Arrange(arranging) => perform_arranging(converter, arranging, shift),
         }
     }
 }
@@ -109,10 +123,8 @@ fn perform_writing(converter: &dyn Converter, axis: Axis, nd: i64) -> Outcome {
 /// before the closed page in its turn.
 fn perform_file(converter: &dyn Converter, file: &File, shift: usize) -> Outcome {
     let mut bytes = Lent::new(&file.bytes, shift, BYTE_GUARD);
-    let [mut nodes, mut dense] = [(0, 7 - shift), (1, (shift + 3) % 8)].map(|(buffer, shift)| {
-        let marks: Vec<u8> = (0..file.buffer_lengths[buffer]).map(byte_mark).collect();
-        Lent::new(&marks, shift, BYTE_GUARD)
-    });
+    let [mut nodes, mut dense] = [(0, 7 - shift), (1, (shift + 3) % 8)]
+        .map(|(buffer, shift)| unwritten_bytes(file.buffer_lengths[buffer], shift));
     let mut geometry = unwritten(file.format.layout().geometry_numbers);
     let room = FileRoom {
         nodes: nodes.part(),
@@ -131,6 +143,19 @@ fn perform_file(converter: &dyn Converter, file: &File, shift: usize) -> Outcome
     }
 }
 
+/// The buffer is moved by other bytes than the image too.
+fn perform_arranging(converter: &dyn Converter, given: &Arranging, shift: usize) -> Outcome {
+    let mut image = Lent::new(&given.image, shift, BYTE_GUARD);
+    let mut buffer = unwritten_bytes(given.buffer_length, 7 - shift);
+    let number = converter.arrange(given.arrangement, image.part(), buffer.part());
+    Outcome {
+        number,
+        written: Vec::new(),
+        nodes: [buffer.values().to_vec(), Vec::new()],
+        rest_unchanged: image.still_holds(&given.image) && buffer.guards_hold(),
+    }
+}
+
 fn outcome(number: Number, values: &Lent<i64>, inputs_unchanged: bool) -> Outcome {
     Outcome {
         number,
@@ -145,10 +170,16 @@ pub fn mark(index: usize) -> i64 {
     UNWRITTEN + index as i64
 }
 
-/// What stands at an index of a buffer for nodes before the call: neither 0 nor 255, the most
+/// What stands at an index of a buffer for nodes or an image before the call: neither 0 nor 255, the most
 /// frequent bytes of nodes, and not what stands beside it.
 pub fn byte_mark(index: usize) -> u8 {
     0x80 + (index % 64) as u8
+}
+
+/// A buffer of so many bytes, each marked by its index.
+fn unwritten_bytes(length: usize, shift: usize) -> Lent<u8> {
+    let marks: Vec<u8> = (0..length).map(byte_mark).collect();
+    Lent::new(&marks, shift, BYTE_GUARD)
 }
 
 /// Memory for so many values, each marked by its index.

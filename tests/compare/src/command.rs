@@ -4,8 +4,8 @@ use crate::{Case, Format, Stream};
 
 pub const USAGE: &str = "usage: compare [STREAM] [--seed N] [--count N] [--progress]
        compare [STREAM] --replay SEED:INDEX
-STREAM is --edition 1|2, --kind 1|2 (of edition 2, with a dense grid, or answering past the edge)
-or --files vdatum|ntv2";
+STREAM is --edition 1|2, --kind 1|2|3 (of edition 2, with a dense grid, answering past the edge, or
+in planes and converted) or --files vdatum|ntv2";
 
 /// What the program is asked to do.
 #[derive(Clone, Debug, PartialEq, Eq)]
@@ -82,6 +82,7 @@ mod tests {
         assert_eq!(parsed("--edition 2 --count 7"), alone(Stream::EditionTwo));
         assert_eq!(parsed("--kind 1 --count 7"), alone(Stream::KindOne));
         assert_eq!(parsed("--kind 2 --count 7"), alone(Stream::KindTwo));
+        assert_eq!(parsed("--kind 3 --count 7"), alone(Stream::KindThree));
         assert_eq!(parsed("--files vdatum --count 7"), alone(VDATUM));
         assert_eq!(parsed("--files ntv2 --count 7"), alone(NTV2));
     }
@@ -100,6 +101,7 @@ mod tests {
         assert_eq!(parsed(second), replay(Stream::EditionTwo));
         assert_eq!(parsed("--kind 1 --replay 3:41"), replay(Stream::KindOne));
         assert_eq!(parsed("--kind 2 --replay 3:41"), replay(Stream::KindTwo));
+        assert_eq!(parsed("--kind 3 --replay 3:41"), replay(Stream::KindThree));
         assert_eq!(parsed("--files ntv2 --replay 3:41"), replay(NTV2));
     }
 
@@ -111,7 +113,7 @@ mod tests {
             "--edition 3",
             "--kind",
             "--kind 0",
-            "--kind 3",
+            "--kind 4",
             "--files",
             "--files gtx",
             "--replay 3",

@@ -1,7 +1,7 @@
 //! What is compared: any implementation of the papers' calls, and the reference as one.
 
 use crate::{Format, Way};
-use reference::{Axis, Converted, Geometry, Notation, Number};
+use reference::{Arrangement, Axis, Converted, Geometry, Notation, Number};
 
 /// What the conversion of a file is lent to write to: the buffer for nodes; that for the nodes of a
 /// subgrid, which VDatum files do not have; and the geometry's numbers, six for each grid that
@@ -52,6 +52,9 @@ pub trait Converter {
     fn write_notation(&self, axis: Axis, nd: i64, notation: &mut [u64; 4]) -> Number;
 
     fn convert_file(&self, format: Format, file: &mut [u8], room: FileRoom) -> Number;
+
+    /// Writes the image with its corrections arranged so.
+    fn arrange(&self, arrangement: Arrangement, image: &mut [u8], buffer: &mut [u8]) -> Number;
 }
 
 /// The reference.
@@ -85,6 +88,11 @@ impl Converter for Reference {
     fn convert_file(&self, format: Format, file: &mut [u8], mut room: FileRoom) -> Number {
         let converted = format.convert(file, room.buffer_lengths());
         number_after(converted, |grids| room.store(&grids))
+    }
+
+    fn arrange(&self, arrangement: Arrangement, image: &mut [u8], buffer: &mut [u8]) -> Number {
+        let arranged = reference::arrange(arrangement, image, buffer.len());
+        number_after(arranged, |bytes| buffer.copy_from_slice(&bytes))
     }
 }
 

@@ -1,12 +1,13 @@
-//! Which of the papers' numbers and counts a run has met, and over files which causes of refusals.
+//! Which of the papers' numbers and counts a run has met, over files which causes of refusals, and
+//! of conversions into another arrangement what can come of them.
 
-use crate::{causes, Call, Cause, Outcome, Stream, Way};
+use crate::{causes, Arranged, Call, Cause, Outcome, Stream, Way};
 use reference::Number;
 use std::collections::BTreeMap;
 use std::fmt;
 
 /// A run of so many calls must meet every number of its stream and, over images, every count, over
-/// files every cause as the only one.
+/// files every cause as the only one, and all that can come of conversions, if it has some.
 pub const FULL_RUN: u64 = 200_000;
 
 /// How often each number, count and cause was met among the calls that the stream counts.
@@ -25,6 +26,8 @@ pub struct Coverage {
     counts: [u64; 6],
     /// How often each cause was the only one to refuse a file.
     pub only_causes: Vec<(Cause, u64)>,
+    /// How often each thing came of conversions into another arrangement.
+    pub arranged: Vec<(Arranged, u64)>,
 }
 
 impl Coverage {
@@ -32,6 +35,10 @@ impl Coverage {
     pub fn of(stream: Stream) -> Coverage {
         let causes = match stream {
             Stream::Files(format) => Cause::all(format),
+            _ => Vec::new(),
+        };
+        let arranged = match stream {
+            Stream::KindThree => Arranged::all(),
             _ => Vec::new(),
         };
         Coverage {
@@ -42,6 +49,7 @@ impl Coverage {
             numbers: BTreeMap::new(),
             counts: [0; 6],
             only_causes: causes.into_iter().map(|cause| (cause, 0)).collect(),
+            arranged: arranged.into_iter().map(|it| (it, 0)).collect(),
         }
     }
 
@@ -57,9 +65,10 @@ impl Coverage {
             Call::List(list) if outcome.number == 0 => self.add_answers(list.way, outcome),
             Call::ConvertFile(file) => {
                 if let [only] = causes(file)[..] {
-                    self.add_only_cause(only);
+                    add_one(&mut self.only_causes, only);
                 }
             }
+            Call::Arrange(given) => add_one(&mut self.arranged, Arranged::of(given)),
             _ => {}
         }
     }
@@ -83,14 +92,8 @@ impl Coverage {
         self.numbers.get(&number).copied().unwrap_or(0)
     }
 
-    fn add_only_cause(&mut self, only: Cause) {
-        for (cause, times) in &mut self.only_causes {
-            *times += u64::from(*cause == only);
-        }
-    }
-
-    /// The numbers, then the counts or the causes that a full run must meet, in words, each with
-    /// how often it was met.
+    /// The numbers, then the counts or the causes, then what comes of conversions that a full run
+    /// must meet, in words, each with how often it was met.
     fn wanted(&self) -> Vec<(String, u64)> {
         let numbers = self.stream.numbers().into_iter();
         let numbers = numbers.map(|it| (format!("number {it}"), self.times(it)));
@@ -100,7 +103,9 @@ impl Coverage {
             return numbers.chain(causes).collect();
         }
         let counts = (1..self.counts.len()).map(|it| (format!("count {it}"), self.counts[it]));
-        numbers.chain(counts).collect()
+        let arranged = self.arranged.iter();
+        let arranged = arranged.map(|(it, times)| (it.to_string(), *times));
+        numbers.chain(counts).chain(arranged).collect()
     }
 
     /// What the stream should have met and did not, in words.
@@ -110,6 +115,13 @@ impl Coverage {
             .filter(|(_, times)| *times == 0)
             .map(|(words, _)| format!("{}: {words} never occurred", self.stream))
             .collect()
+    }
+}
+
+/// Counts one of these things once more.
+fn add_one<Thing: PartialEq>(things: &mut [(Thing, u64)], met: Thing) {
+    for (thing, times) in things {
+        *times += u64::from(*thing == met);
     }
 }
 

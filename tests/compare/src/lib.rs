@@ -3,6 +3,7 @@
 //!
 //! A call is made from its stream, a seed and an index alone, so that any of them can be replayed.
 
+mod arranged;
 mod call;
 pub mod cases;
 mod causes;
@@ -23,8 +24,9 @@ mod stream;
 mod unread;
 mod why;
 
+pub use arranged::{Arranged, Event};
 pub use binding::Way;
-pub use call::{Call, List, Outcome};
+pub use call::{Arranging, Call, List, Outcome};
 pub use causes::{Cause, NotFinite, Reason, Side};
 pub use command::{parse, Command, USAGE};
 pub use comparison::{compare, compare_case, Case, Difference};

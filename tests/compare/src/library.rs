@@ -3,9 +3,10 @@
 use crate::{Converter, FileRoom, Format, Way};
 use binding::{
     marker_corrections_from_ntv2, marker_grid_check, marker_heights_from_vdatum,
-    marker_read_notation, marker_write_notation,
+    marker_nodes_from_planes, marker_planes_from_nodes, marker_read_notation,
+    marker_write_notation,
 };
-use reference::{Axis, Notation, Number};
+use reference::{Arrangement, Axis, Notation, Number};
 
 /// The linked library.
 ///
@@ -60,5 +61,14 @@ impl Converter for Library {
                 )
             },
         }
+    }
+
+    fn arrange(&self, arrangement: Arrangement, image: &mut [u8], buffer: &mut [u8]) -> Number {
+        let call = match arrangement {
+            Arrangement::Nodes => marker_nodes_from_planes,
+            Arrangement::Planes => marker_planes_from_nodes,
+        };
+        let (bytes, room) = (image.as_mut_ptr(), buffer.as_mut_ptr());
+        unsafe { call(bytes, image.len(), room, buffer.len()) }
     }
 }

@@ -1,7 +1,7 @@
 //! How a call and a difference are shown: short enough to read, and enough to replay.
 
 use crate::call::{byte_mark, mark};
-use crate::{Call, Case, Cause, Difference, File, Outcome, Part};
+use crate::{Arranged, Call, Case, Cause, Difference, File, Outcome, Part};
 use reference::{DenseTrailer, Trailer, TwoGridTrailer};
 use std::fmt::{self, Display, Formatter};
 
@@ -27,12 +27,17 @@ impl Display for Call {
             Call::ReadNotation { axis, notation } => writeln!(to, "read {axis:?} {notation:?}"),
             Call::WriteNotation { axis, nd } => writeln!(to, "write {axis:?} {nd}"),
             Call::ConvertFile(file) => show_file(to, file),
+            Call::Arrange(given) => {
+                let length = given.buffer_length;
+                writeln!(to, "into {:?}: buffer of {length} bytes", given.arrangement)?;
+                show_image(to, &given.image)
+            }
         }
     }
 }
 
 /// The trailer's fields and the bytes: the trailer as one line, the rest in lines as long as a
-/// node of edition 1 or a correction node of edition 2.
+/// node of edition 1 or a correction node of edition 2 in nodes.
 fn show_image(to: &mut Formatter, image: &[u8]) -> fmt::Result {
     writeln!(to, "image of {} bytes", image.len())?;
     let second = TwoGridTrailer::read(image).filter(|it| it.edition == 2);
@@ -153,6 +158,12 @@ impl Display for Cause {
             Part::First => Ok(()),
             Part::Subgrid => write!(to, " of the subgrid"),
         }
+    }
+}
+
+impl Display for Arranged {
+    fn fmt(&self, to: &mut Formatter) -> fmt::Result {
+        write!(to, "into {:?}: {:?}", self.arrangement, self.event)
     }
 }
 

@@ -42,7 +42,7 @@ impl Digest {
                 notation.letter.into(),
             ]),
             Call::WriteNotation { axis, nd } => self.add_numbers(&[longitude(axis), *nd]),
-            Call::ConvertFile(file) => panic!("{} bytes of a file", file.bytes.len()),
+            Call::ConvertFile(_) | Call::Arrange(_) => panic!("{call}"),
         }
     }
 
@@ -79,15 +79,22 @@ fn says_kind(image: &[u8], kinds: &[u32]) -> bool {
 }
 
 #[test]
-fn edition_2_is_as_it_was_before_kinds_1_and_2() {
-    let before = (0x499B_5DC0_A3E1_D9EE, 0xE8A0_5D12_7154_4CCE);
-    let came_later = |image: &[u8]| says_kind(image, &[1, 2]);
+fn edition_2_is_as_it_was_before_kinds_1_to_3() {
+    let before = (0x499B_5DC0_A3E1_D9EE, 0xC70F_DEB9_2921_3A8E);
+    let came_later = |image: &[u8]| says_kind(image, &[1, 2, 3]);
     assert_eq!(digests(Stream::EditionTwo, came_later), before);
 }
 
 #[test]
-fn kind_1_is_as_it_was_before_kind_2() {
-    let before = (0xCBCB_7877_0C31_0B77, 0xDAD3_1C25_C052_989F);
-    let came_later = |image: &[u8]| says_kind(image, &[2]);
+fn kind_1_is_as_it_was_before_kinds_2_and_3() {
+    let before = (0xCBCB_7877_0C31_0B77, 0x734A_462A_A6AA_C800);
+    let came_later = |image: &[u8]| says_kind(image, &[2, 3]);
     assert_eq!(digests(Stream::KindOne, came_later), before);
+}
+
+#[test]
+fn kind_2_is_as_it_was_before_kind_3() {
+    let before = (0xBD73_E7E7_E5F1_6918, 0xFC61_EFD2_E4F1_25A3);
+    let came_later = |image: &[u8]| says_kind(image, &[3]);
+    assert_eq!(digests(Stream::KindTwo, came_later), before);
 }

@@ -19,7 +19,9 @@ mod slipped;
 
 use compare::{compare, Cause, Difference, Format, Stream};
 use nested::{Fault, AXES};
-use slipped::{DenseSlip, FileSlip, Slip, Slipped, SubgridSlip, UnboundedSlip};
+use slipped::{
+    DenseSlip, FileSlip, PlanesSlip, Slip, Slipped, SubgridSlip, TwoGridSlip, UnboundedSlip,
+};
 
 const SEED: u64 = 20_260_101;
 const FEW_THOUSAND: u64 = 4_000;
@@ -50,6 +52,8 @@ fn a_converter_without_a_slip_has_no_difference() {
         (Stream::KindOne, DenseSlip::None.into()),
         (Stream::KindTwo, Slip::None),
         (Stream::KindTwo, UnboundedSlip::None.into()),
+        (Stream::KindThree, Slip::None),
+        (Stream::KindThree, PlanesSlip::None.into()),
         (VDATUM, FileSlip::None.into()),
         (NTV2, FileSlip::None.into()),
         (NTV2, SubgridSlip::None.into()),
@@ -66,6 +70,7 @@ fn a_difference_is_told_with_a_case_to_replay() {
         (Stream::EditionTwo, Slip::HeightAtTheFix, "--edition 2"),
         (Stream::KindOne, Slip::HeightAtTheFix, "--kind 1"),
         (Stream::KindTwo, Slip::HeightAtTheFix, "--kind 2"),
+        (Stream::KindThree, Slip::HeightAtTheFix, "--kind 3"),
         (VDATUM, north_first, "--files vdatum"),
         (NTV2, north_first, "--files ntv2"),
     ] {
@@ -102,6 +107,42 @@ fn slips_of_either_edition_are_caught_over_edition_2() {
         caught_over(Stream::EditionTwo, slip);
         caught_over(Stream::KindOne, slip);
         caught_over(Stream::KindTwo, slip);
+        caught_over(Stream::KindThree, slip);
+    }
+}
+
+/// So are those of the heights on a grid of their own over images in planes.
+#[test]
+fn slips_of_two_grids_are_caught_over_kind_3() {
+    for slip in [
+        TwoGridSlip::KindNotAsked,
+        TwoGridSlip::EightyBytesNotAsked,
+        TwoGridSlip::HeightBackNotAsked,
+        TwoGridSlip::HeightsInTheCorrectionCell,
+        TwoGridSlip::HeightsByTheCorrectionPlace,
+        TwoGridSlip::NearestHeight,
+        TwoGridSlip::BoundsOfBothGrids,
+        TwoGridSlip::FifteenBeforeNine,
+        TwoGridSlip::LastCorrectionCellAsked,
+        TwoGridSlip::SlopeByTheCorrectionSpacings,
+        TwoGridSlip::SlopeBeforeHeights,
+    ] {
+        caught_over(Stream::KindThree, slip.into());
+    }
+}
+
+/// Within a few calls, since most of them show these.
+#[test]
+fn slips_of_the_arrangement_itself_are_caught_at_once() {
+    for slip in [
+        PlanesSlip::LongitudesReadFirst,
+        PlanesSlip::LongitudesWrittenFirst,
+        PlanesSlip::KindLeft,
+        PlanesSlip::HeightsMoved,
+        PlanesSlip::BufferOfTheWholeImageTaken,
+        PlanesSlip::KindThreeReadAsZero,
+    ] {
+        caught_within(200, Stream::KindThree, slip.into());
     }
 }
 

@@ -1,11 +1,13 @@
 //! An image of edition 1 and its twin of edition 2, with the heights on the correction grid, give
 //! the same wherever question 9 lets all nodes pass. An image of kind 0 and its twin of kind 1, with
 //! the correction nodes as dense ones too, give the same in the check and going back. An image of
-//! kind 0 and the same bytes of kind 2 give the same but for 8, 10, 15 and 22.
+//! kind 0 and the same bytes of kind 2 give the same but for 8, 10, 15 and 22. An image of kind 0 and
+//! its twin of kind 3 give the same, and so do those of kind 3 and their twins of kind 0.
 
 use compare::{Call, List, Outcome, Reference, Stream, Way};
 use reference::{
-    open_image, write_dense, write_two_grids, DenseTrailer, Grid, Image, TwoGridTrailer,
+    arrange, open_image, write_dense, write_two_grids, Arrangement, DenseTrailer, Image,
+    TwoGridTrailer,
 };
 
 /// The twin of an image of edition 1 that opens and whose nodes all pass question 9.
@@ -13,7 +15,7 @@ fn twin(image: &[u8]) -> Option<Vec<u8>> {
     let Ok(Image::OneGrid(grid)) = open_image(image) else {
         return None;
     };
-    let nodes = nodes_of(&grid);
+    let nodes = grid.all_nodes();
     if !nodes.iter().all(|node| grid.node_fits(node)) {
         return None;
     }
@@ -23,7 +25,7 @@ fn twin(image: &[u8]) -> Option<Vec<u8>> {
     Some(write_two_grids(&corrections, &heights, &trailer))
 }
 
-/// The twin of kind 1 of an image of kind 0 that opens: the dense grid is the whole coarse one.
+/// The twin of kind 1 of an image of kind 0 or 3 that opens: the dense grid is the whole coarse one.
 fn dense_twin(image: &[u8]) -> Option<Vec<u8>> {
     let Ok(Image::TwoGrids {
         corrections,
@@ -38,8 +40,8 @@ fn dense_twin(image: &[u8]) -> Option<Vec<u8>> {
         kind: 1,
         ..TwoGridTrailer::over(corrections.geometry, heights.geometry)
     };
-    let nodes = nodes_of(&corrections);
-    let rest = write_two_grids(&nodes, &nodes_of(&heights), &trailer);
+    let nodes = corrections.all_nodes();
+    let rest = write_two_grids(&nodes, &heights.all_nodes(), &trailer);
     let dense_trailer = DenseTrailer::over(corrections.geometry, &trailer);
     Some(write_dense(&nodes, &dense_trailer, &rest))
 }
@@ -53,10 +55,11 @@ fn unbounded_twin(image: &[u8]) -> Option<Vec<u8>> {
     Some([nodes, &trailer.write()].concat())
 }
 
-/// All nodes of a grid.
-fn nodes_of<const VALUES: usize>(grid: &Grid<VALUES>) -> Vec<[i32; VALUES]> {
-    let places = grid.geometry.node_places();
-    places.map(|(row, column)| grid.node(row, column)).collect()
+/// The twin of kind 3 of an image of kind 0 that opens, and the other way round, without the bytes
+/// before the first node.
+fn twin_in(arrangement: Arrangement, image: &[u8]) -> Option<Vec<u8>> {
+    let trailer = TwoGridTrailer::read(image)?;
+    arrange(arrangement, image, trailer.correction_back as usize).ok()
 }
 
 /// The call over the twin of its image.
@@ -93,6 +96,18 @@ fn compare_twins(
 #[test]
 fn twins_give_the_same() {
     compare_twins(Stream::EditionOne, twin, |_| true);
+}
+
+#[test]
+fn twins_in_planes_give_the_same() {
+    let twin = |image: &[u8]| twin_in(Arrangement::Planes, image);
+    compare_twins(Stream::EditionTwo, twin, |_| true);
+}
+
+#[test]
+fn twins_in_nodes_give_the_same() {
+    let twin = |image: &[u8]| twin_in(Arrangement::Nodes, image);
+    compare_twins(Stream::KindThree, twin, |_| true);
 }
 
 /// Going out the stop distance differs.

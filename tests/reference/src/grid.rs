@@ -8,12 +8,22 @@ pub(crate) const CORRECTION_LIMIT: i128 = 10_000_000;
 /// "and height within 1,000,000 of zero".
 pub(crate) const HEIGHT_LIMIT: i128 = 1_000_000;
 
+/// How the values of a grid stand after each other.
+#[derive(Clone, Copy, Debug, PartialEq, Eq)]
+pub enum Arrangement {
+    /// All values of a node, then those of the next one.
+    Nodes,
+    /// "All latitude corrections, then all longitude corrections …, in the same node order."
+    Planes,
+}
+
 /// A grid whose nodes have so many values, of 4 bytes each (i32).
 #[derive(Clone, Copy, Debug)]
 pub struct Grid<'a, const VALUES: usize> {
     pub geometry: Geometry,
-    /// The bytes from the first node on.
-    pub(crate) nodes: &'a [u8],
+    /// The bytes from the first value on.
+    pub(crate) values: &'a [u8],
+    pub(crate) arrangement: Arrangement,
     /// How far from zero question 9 lets each value be.
     pub limits: [i128; VALUES],
 }
@@ -21,9 +31,21 @@ pub struct Grid<'a, const VALUES: usize> {
 impl<const VALUES: usize> Grid<'_, VALUES> {
     /// "Row 0 is the southern one, and a row runs from west to east."
     pub fn node(&self, row: i128, column: i128) -> [i32; VALUES] {
-        let index = row * i128::from(self.geometry.columns) + column;
-        let first = 4 * VALUES * index as usize;
-        std::array::from_fn(|value| i32_at(self.nodes, first + 4 * value))
+        let index = (row * i128::from(self.geometry.columns) + column) as usize;
+        let nodes = self.geometry.nodes() as usize;
+        std::array::from_fn(|value| {
+            let values_before = match self.arrangement {
+                Arrangement::Nodes => VALUES * index + value,
+                Arrangement::Planes => nodes * value + index,
+            };
+            i32_at(self.values, 4 * values_before)
+        })
+    }
+
+    /// All nodes, the southern row first and each row from west to east.
+    pub fn all_nodes(&self) -> Vec<[i32; VALUES]> {
+        let places = self.geometry.node_places();
+        places.map(|(row, column)| self.node(row, column)).collect()
     }
 
     /// Is each value of the node within its limit of zero?

@@ -1,6 +1,6 @@
 //! The image of either edition: questions 1 to 6 and 20, where its nodes stand, and its writing.
 
-use crate::grid::{CORRECTION_LIMIT, HEIGHT_LIMIT};
+use crate::grid::{Arrangement, CORRECTION_LIMIT, HEIGHT_LIMIT};
 use crate::{ask, DenseTrailer, Geometry, Grid, Number, Trailer, TwoGridTrailer};
 
 /// An image that answered yes to questions 1 to 6 and, if it has a dense grid, to 20.
@@ -11,7 +11,7 @@ pub enum Image<'a> {
     OneGrid(Grid<'a, 3>),
     /// Edition 2: "correction nodes of 8 bytes, then height nodes of 4 bytes". Kind 1 has dense
     /// nodes too. Kind 2, "laid out as kind 0", is unbounded: it has an answer for "fixes past the
-    /// edge" too.
+    /// edge" too. In kind 3 the corrections stand in planes.
     TwoGrids {
         corrections: Grid<'a, 2>,
         heights: Grid<'a, 1>,
@@ -36,10 +36,11 @@ pub fn open_image(bytes: &[u8]) -> Result<Image<'_>, Number> {
 fn open_one_grid<'a>(bytes: &'a [u8], trailer: &Trailer) -> Result<Image<'a>, Number> {
     geometry_questions(&[trailer.geometry])?;
     // "6. Is back equal to 12 × rows × columns + 40, and not above the length? Else 6."
-    let nodes = nodes_at(bytes, trailer.back, trailer.right_back())?;
+    let values = values_at(bytes, trailer.back, trailer.right_back())?;
     Ok(Image::OneGrid(Grid {
         geometry: trailer.geometry,
-        nodes,
+        values,
+        arrangement: Arrangement::Nodes,
         limits: [CORRECTION_LIMIT, CORRECTION_LIMIT, HEIGHT_LIMIT],
     }))
 }
@@ -49,7 +50,7 @@ fn open_two_grids(bytes: &[u8]) -> Result<Image<'_>, Number> {
     // "Below 80 bytes is a 1, an unknown kind a 2."
     let trailer = TwoGridTrailer::read(bytes).ok_or(1)?;
     let dense = match trailer.kind {
-        0 | 2 => None,
+        0 | 2 | 3 => None,
         // "A length below 36 plus the correction nodes' back is a 1."
         1 => Some(DenseTrailer::read(bytes, &trailer).ok_or(1)?),
         _ => return Err(2),
@@ -59,12 +60,12 @@ fn open_two_grids(bytes: &[u8]) -> Result<Image<'_>, Number> {
     let geometries: Vec<Geometry> = both.into_iter().chain(dense_geometry).collect();
     geometry_questions(&geometries)?;
     let right = trailer.right_correction_back();
-    let corrections = correction_grid(bytes, trailer.corrections, trailer.correction_back, right)?;
-    let heights = Grid {
-        geometry: trailer.heights,
-        nodes: nodes_at(bytes, trailer.height_back, trailer.right_height_back())?,
-        limits: [HEIGHT_LIMIT],
+    let nodes = correction_grid(bytes, trailer.corrections, trailer.correction_back, right)?;
+    let corrections = Grid {
+        arrangement: trailer.arrangement(),
+        ..nodes
     };
+    let heights = height_grid(bytes, &trailer)?;
     let dense =
         dense.map(|it| correction_grid(bytes, it.geometry, it.back, it.right_back(&trailer)));
     let dense = dense.transpose()?;
@@ -81,7 +82,7 @@ fn open_two_grids(bytes: &[u8]) -> Result<Image<'_>, Number> {
     })
 }
 
-/// A grid of corrections, coarse or dense, after its question 6.
+/// A grid of corrections in nodes, coarse or dense, after its question 6.
 fn correction_grid(
     bytes: &[u8],
     geometry: Geometry,
@@ -90,8 +91,19 @@ fn correction_grid(
 ) -> Result<Grid<'_, 2>, Number> {
     Ok(Grid {
         geometry,
-        nodes: nodes_at(bytes, back, right_back)?,
+        values: values_at(bytes, back, right_back)?,
+        arrangement: Arrangement::Nodes,
         limits: [CORRECTION_LIMIT; 2],
+    })
+}
+
+/// The grid of heights, after its question 6.
+fn height_grid<'a>(bytes: &'a [u8], trailer: &TwoGridTrailer) -> Result<Grid<'a, 1>, Number> {
+    Ok(Grid {
+        geometry: trailer.heights,
+        values: values_at(bytes, trailer.height_back, trailer.right_height_back())?,
+        arrangement: Arrangement::Nodes,
+        limits: [HEIGHT_LIMIT],
     })
 }
 
@@ -105,7 +117,7 @@ fn geometry_questions(geometries: &[Geometry]) -> Result<(), Number> {
 
 /// Question 6: is back the right one, and not above the length? The bytes from the first node
 /// on: "Back is the distance in bytes from the image's end to the first node."
-fn nodes_at(bytes: &[u8], back: u32, right_back: i128) -> Result<&[u8], Number> {
+fn values_at(bytes: &[u8], back: u32, right_back: i128) -> Result<&[u8], Number> {
     ask(i128::from(back) == right_back, 6)?;
     let first_node = bytes.len().checked_sub(back as usize).ok_or(6)?;
     Ok(&bytes[first_node..])
@@ -125,10 +137,25 @@ pub fn write_two_grids(
     heights: &[[i32; 1]],
     trailer: &TwoGridTrailer,
 ) -> Vec<u8> {
-    let mut bytes = node_bytes(corrections);
-    bytes.extend(node_bytes(heights));
-    bytes.extend(trailer.write());
-    bytes
+    [node_bytes(corrections), rest(heights, trailer)].concat()
+}
+
+/// The same of kind 3: "all latitude corrections, then all longitude corrections, then the heights".
+pub fn write_planes(
+    corrections: &[[i32; 2]],
+    heights: &[[i32; 1]],
+    trailer: &TwoGridTrailer,
+) -> Vec<u8> {
+    let plane = |value: usize| {
+        let values: Vec<[i32; 1]> = corrections.iter().map(|node| [node[value]]).collect();
+        node_bytes(&values)
+    };
+    [plane(0), plane(1), rest(heights, trailer)].concat()
+}
+
+/// What follows the corrections.
+fn rest(heights: &[[i32; 1]], trailer: &TwoGridTrailer) -> Vec<u8> {
+    [node_bytes(heights), trailer.write()].concat()
 }
 
 /// The bytes of a kind 1 image: dense nodes, their 36 bytes, and the other nodes with the trailer,

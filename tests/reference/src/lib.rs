@@ -1,5 +1,5 @@
-//! The independent reference: document 01, with notes 1, 2 and 4 to 6 of document 02, said once
-//! more, over whole-number fractions.
+//! The independent reference: document 01, with notes 1, 2, 4 to 6 and 8 of document 02, said
+//! once more, over whole-number fractions.
 //!
 //! It shares no code and no constants with `crates/`. It is meant to be read beside the papers,
 //! not to be fast. Every public function answers either its values or the papers' number.
@@ -19,6 +19,7 @@ mod ntv2;
 mod ntv2_file;
 mod numbers;
 mod place;
+mod planes;
 mod trailer;
 mod vdatum;
 mod ways;
@@ -28,8 +29,8 @@ pub use files::{Converted, Nearest};
 pub use float::{is_negative, nearest, turned, Exact, Width, DOUBLE, SINGLE};
 pub use fraction::Fraction;
 pub use geometry::Geometry;
-pub use grid::Grid;
-pub use image::{open_image, write_dense, write_image, write_two_grids, Image};
+pub use grid::{Arrangement, Grid};
+pub use image::{open_image, write_dense, write_image, write_planes, write_two_grids, Image};
 pub use lists::{convert_list, list_back, list_out};
 pub use notation::{read_notation, write_notation, Axis, Notation};
 pub use ntv2::{convert_ntv2, corrections_from_ntv2, FROM_ARCSECONDS};
@@ -38,6 +39,7 @@ pub use ntv2_file::{
     GRID_LABELS, OVERVIEW_LABELS,
 };
 pub use place::{Place, Point};
+pub use planes::{arrange, nodes_from_planes, planes_from_nodes};
 pub use trailer::{DenseTrailer, Trailer, TwoGridTrailer};
 pub use vdatum::{
     convert_vdatum, height_bits, heights_from_vdatum, FileHeader, FROM_DEGREES, FROM_METRES,

@@ -1,7 +1,7 @@
 //! The trailers of the two editions, and of the dense nodes.
 
 use crate::numbers::{u32_at, u32_bytes};
-use crate::Geometry;
+use crate::{Arrangement, Geometry};
 
 const TRAILER_BYTES: usize = 40;
 const TWO_GRID_TRAILER_BYTES: usize = 80;
@@ -54,7 +54,8 @@ impl Trailer {
 
 /// Edition 2: "a trailer of 80 bytes: correction geometry, height geometry (each like the old
 /// trailer's first 32 bytes), back to the correction nodes, back to the height nodes, kind (u32,
-/// only 0 for now), edition." Since note 5 also 1, since note 6 also 2.
+/// only 0 for now), edition." Since note 5 also 1, since note 6 also 2, since note 8
+/// also 3.
 #[derive(Clone, Copy, Debug, PartialEq, Eq)]
 pub struct TwoGridTrailer {
     pub corrections: Geometry,
@@ -101,6 +102,14 @@ impl TwoGridTrailer {
         let backs = u32_bytes(&[self.correction_back, self.height_back]);
         let rest = u32_bytes(&[self.kind, self.edition]);
         [self.corrections.write(), self.heights.write(), backs, rest].concat()
+    }
+
+    /// How the corrections stand.
+    pub fn arrangement(&self) -> Arrangement {
+        match self.kind {
+            3 => Arrangement::Planes,
+            _ => Arrangement::Nodes,
+        }
     }
 
     /// "Height nodes of 4 bytes, then a trailer of 80 bytes", which "touch each other".

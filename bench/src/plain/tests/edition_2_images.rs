@@ -57,11 +57,14 @@ fn lengths() {
 fn editions_and_kinds() {
     assert_eq!(with(&[(EDITION, 0)]), 2);
     assert_eq!(with(&[(EDITION, 3)]), 2);
-    assert_eq!(with(&[(KIND, 3)]), 2);
-    assert_eq!(with(&[(KIND, 258)]), 2);
-    assert_eq!(with(&[(KIND, 2)]), 0);
-    assert_eq!(with(&[(KIND, 2), (ROWS, 1)]), 3);
-    assert_eq!(with(&[(KIND, 2), (BACK, 0)]), 6);
+    for unknown in [4, 258, 259] {
+        assert_eq!(with(&[(KIND, unknown)]), 2);
+    }
+    for known in [2, 3] {
+        assert_eq!(with(&[(KIND, known)]), 0);
+        assert_eq!(with(&[(KIND, known), (ROWS, 1)]), 3);
+        assert_eq!(with(&[(KIND, known), (BACK, 0)]), 6);
+    }
 }
 
 /// Each question is put to the corrections and then to the heights before the next one.

@@ -70,7 +70,7 @@ fn lengths() {
 #[test]
 fn kinds_and_backs_to_the_corrections() {
     let (kind, back) = (8, 16);
-    assert_eq!(with(&[], &[(kind, 3), (back, u32::MAX)]), 2);
+    assert_eq!(with(&[], &[(kind, 4), (back, u32::MAX)]), 2);
     assert_eq!(with(&[(ROWS, 1)], &[(kind, 2), (back, u32::MAX)]), 6);
     assert_eq!(with(&[(ROWS, 1)], &[(back, u32::MAX)]), 1);
     assert_eq!(with(&[(ROWS, 1)], &[(kind, 0)]), 0);

@@ -1,25 +1,14 @@
 -- `image::layout_of` meets its contract: an image that opened has its trailer, whose backs question 6 let pass.
-use mathlib.Core.Bool.{Bool, true, false, cond}
-use mathlib.Core.List.{List}
+use mathlib.Core.Bool.{true, false}
 use mathlib.Core.Path.{_≡_, refl, sym, _∙_}
-use Prim.Native.Nat.{ℕ}
 use denote.Ref.{now}
-use Rattle.rules.specs.declared.Layout.{Layout}
 use Rattle.rules.specs.Answers.{values}
 use Rattle.rules.specs.Image.{twoGridTrailerOf, isNested, layoutFor}
 use Rattle.rules.specs.Questions.{opening}
-use Rattle.rules.proofs.Opening.{opened-one, opened-long, opened-two, opened-nested}
+use Rattle.rules.proofs.Opening.{two-layout-separate, opened-one, opened-long, opened-two, opened-nested}
 use borrow.Author.Needs.{needs}
 use Rattle.image.proofs.layout_of.Statement.{statement}
 use Rattle.image.proofs.layout_of.Tie as tie
-
--- edition 2's layout of either kind has its heights on a separate grid
-is-separate : (b : List ℕ) → layoutFor b true .separate ≡ true
-is-separate b = by (isNested (twoGridTrailerOf b)) _ _ refl refl
-  where
-    by : (t : Bool) (x y : Layout) → x .separate ≡ true → y .separate ≡ true → cond t x y .separate ≡ true
-    by true x y h k = h
-    by false x y h k = k
 
 -- the image opened with edition 2's layout, or with edition 1's
 second : (c : tie.Then1) → let b = now (c .before .before .args .image) in opening b ≡ values (layoutFor b true)
@@ -29,7 +18,7 @@ first : (c : tie.Else1) → let b = now (c .before .before .args .image) in open
 first c = rw (c .if1 .left) at (c .before .before .pre)
 
 read-two-grid-trailer-requires : tie.Need-read-two-grid-trailer-requires
-read-two-grid-trailer-requires c κs = opened-long _ _ (second c) (is-separate _)
+read-two-grid-trailer-requires c κs = opened-long _ _ (second c) (two-layout-separate _)
 
 -- the kind, by the trailer
 nested : (c : tie.Then2) → let b = now (c .before .before .before .before .before .args .image) in isNested (twoGridTrailerOf b) ≡ true
@@ -42,15 +31,15 @@ not-nested c = let n = c .before in rw (← n .before .read-two-grid-trailer .en
 read-dense-trailer-requires : tie.Need-read-dense-trailer-requires
 read-dense-trailer-requires c κs =
     let r = c .before .before in
-    let o = opened-nested _ _ (second (r .before)) (is-separate _) (nested c) in
+    let o = opened-nested _ _ (second (r .before)) (two-layout-separate _) (nested c) in
     rw (r .read-two-grid-trailer .ensures) (o .enough, refl)
 
 nested-layout-requires : tie.Need-nested-layout-requires
 nested-layout-requires c κs =
     let t = c .before in
     let r = t .before .before in
-    let o = opened-nested _ _ (second (r .before)) (is-separate _) (nested t) in
-    rw (c .read-dense-trailer .ensures, r .read-two-grid-trailer .ensures) (o .bytes)
+    let o = opened-nested _ _ (second (r .before)) (two-layout-separate _) (nested t) in
+    rw (c .read-dense-trailer .ensures, r .read-two-grid-trailer .ensures) (o .bytes, nested t)
 
 returns : tie.Need-returns
 returns c =
@@ -62,7 +51,7 @@ returns c =
 two-grid-layout-requires : tie.Need-two-grid-layout-requires
 two-grid-layout-requires c κs =
     let r = c .before .before in
-    rw (r .read-two-grid-trailer .ensures) (opened-two _ _ (second (r .before)) (is-separate _) (not-nested c))
+    rw (r .read-two-grid-trailer .ensures) (opened-two _ _ (second (r .before)) (two-layout-separate _) (not-nested c))
 
 returns-2 : tie.Need-returns-2
 returns-2 c =

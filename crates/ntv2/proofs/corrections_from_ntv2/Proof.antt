@@ -13,9 +13,10 @@ use Rattle.integers.specs.Booleans.{and-left, and-right}
 use Rattle.rules.specs.declared.FileGrids.{FileGrids}
 use Rattle.rules.specs.Units.{countMost}
 use Rattle.rules.specs.Answers.{ask, values, number, numberOf}
+use Rattle.rules.specs.Image.{nodeCount}
 use Rattle.rules.specs.Limits.{SmallGeometry}
 use Rattle.rules.specs.Files.{gridsAnswerOf}
-use Rattle.rules.specs.Ntv2.{nodeCount, firstGrid, subgridAfter, question18, gridsOf, allShiftsFit, question19, correctionNodes}
+use Rattle.rules.specs.Ntv2.{firstGrid, subgridAfter, question18, gridsOf, allShiftsFit, question19, correctionNodes}
 use Rattle.rules.specs.Ntv2.{correctionsFrom}
 use Rattle.rules.proofs.Answers.{asked, asked-no}
 use Rattle.rules.proofs.Files.{passes-small}

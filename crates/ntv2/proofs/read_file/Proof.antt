@@ -15,9 +15,10 @@ use Rattle.rules.specs.declared.Geometry.{Geometry}
 use Rattle.rules.specs.declared.FileGrids.{FileGrids}
 use Rattle.rules.specs.Units.{countMost}
 use Rattle.rules.specs.Answers.{Outcome, ask, values, numberOf}
+use Rattle.rules.specs.Image.{nodeCount}
 use Rattle.rules.specs.Limits.{GeometryPasses}
 use Rattle.rules.specs.Files.{fileAnswerOf}
-use Rattle.rules.specs.Ntv2.{noneText, overviewPasses, gridHeaderOf, nodeCount, gridPasses, firstGrid, restPasses, question18}
+use Rattle.rules.specs.Ntv2.{noneText, overviewPasses, gridHeaderOf, gridPasses, firstGrid, restPasses, question18}
 use Rattle.rules.specs.Ntv2.{subgridHeaderOf}
 use Rattle.rules.proofs.Answers.{asked, asked-no}
 use Rattle.rules.proofs.Lent.{part-from}

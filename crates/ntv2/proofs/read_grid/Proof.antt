@@ -12,9 +12,10 @@ use borrow.Author.Needs.{needs}
 use borrow.Author.Tests.{eq-eqb, ne-eqb, le-leb, lt-leb}
 use Rattle.rules.specs.Units.{countMost}
 use Rattle.rules.specs.Answers.{values, numberOf}
+use Rattle.rules.specs.Image.{nodeCount}
 use Rattle.rules.specs.Limits.{GeometryPasses}
 use Rattle.rules.specs.Files.{fileAnswerOf}
-use Rattle.rules.specs.Ntv2.{parentOf, gridHeaderOf, nodeCount, headerPasses, gridPasses}
+use Rattle.rules.specs.Ntv2.{parentOf, gridHeaderOf, headerPasses, gridPasses}
 use Rattle.rules.proofs.Answers.{asked, asked-no}
 use Rattle.ntv2_headers.proofs.Header.{header-establishes}
 use Rattle.ntv2.proofs.read_grid.Statement.{statement}

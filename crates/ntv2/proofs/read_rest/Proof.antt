@@ -10,8 +10,9 @@ use borrow.Author.Needs.{needs}
 use borrow.Author.Tests.{eq-eqb, ne-eqb}
 use Rattle.rules.specs.declared.Geometry.{Geometry}
 use Rattle.rules.specs.Answers.{values, numberOf}
+use Rattle.rules.specs.Image.{nodeCount}
 use Rattle.rules.specs.Files.{fileAnswerOf}
-use Rattle.rules.specs.Ntv2.{gridCount, gridHeaderOf, nodeCount, closed, firstGrid, subgridAfter, hasSubgrid, subgridPasses, restPasses}
+use Rattle.rules.specs.Ntv2.{gridCount, gridHeaderOf, closed, firstGrid, subgridAfter, hasSubgrid, subgridPasses, restPasses}
 use Rattle.rules.proofs.Answers.{asked, asked-no}
 use Rattle.rules.proofs.Lent.{part-from}
 use Rattle.ntv2.proofs.read_rest.Statement.{statement}

@@ -11,9 +11,10 @@ use borrow.Author.Needs.{needs}
 use borrow.Author.Tests.{lt-leb}
 use Rattle.rules.specs.Units.{countMost}
 use Rattle.rules.specs.Answers.{ask, values, numberOf}
+use Rattle.rules.specs.Image.{nodeCount}
 use Rattle.rules.specs.Limits.{GeometryPasses}
 use Rattle.rules.specs.Files.{fileAnswerOf}
-use Rattle.rules.specs.Ntv2.{textAt, nameOf, gridHeaderOf, nodeCount, gridPasses, closed, firstGrid, subgridAfter, subgridPasses}
+use Rattle.rules.specs.Ntv2.{textAt, nameOf, gridHeaderOf, gridPasses, closed, firstGrid, subgridAfter, subgridPasses}
 use Rattle.rules.proofs.Answers.{asked, asked-no}
 use Rattle.rules.proofs.Lent.{part-from}
 use Rattle.ntv2.proofs.Passing.{grid-is}

@@ -11,8 +11,9 @@ use borrow.Author.Tests.{eq-eqb, ne-eqb, not-true, not-false}
 use Rattle.integers.specs.Booleans.{and-left}
 use Rattle.rules.specs.Units.{countMost}
 use Rattle.rules.specs.Answers.{values}
+use Rattle.rules.specs.Image.{nodeCount}
 use Rattle.rules.specs.Questions.{question3, questions3To5}
-use Rattle.rules.specs.Ntv2.{countAt, labelled, latitudeExtent, longitudeExtent, threeFinite, axisOf, gridHeaderOf, nodeCount, headerPasses}
+use Rattle.rules.specs.Ntv2.{countAt, labelled, latitudeExtent, longitudeExtent, threeFinite, axisOf, gridHeaderOf, headerPasses}
 use Rattle.rules.proofs.Files.{axis-fit, axis-unfit}
 use Rattle.rules.proofs.Opening.{nodes-most}
 use Rattle.ntv2_headers.specs.Reading.{extentFits}

@@ -1,6 +1,7 @@
 //! The made-up calls: each follows from a seed and an index alone. Here those of edition 1, with
 //! what edition 2's, in `two_grids`, those of its kind 1, in `three_grids`, those of its kind 2, in
-//! `unbounded`, and those over grid files, in `files`, share with them.
+//! `unbounded`, those of its kind 3, in `planes`, and those over grid files, in `files`, share with
+//! them.
 
 mod axis;
 mod damage;
@@ -11,6 +12,7 @@ mod grid;
 mod lists;
 mod notations;
 mod over_grids;
+pub mod planes;
 pub mod three_grids;
 pub mod two_grids;
 pub mod unbounded;

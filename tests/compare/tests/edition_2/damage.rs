@@ -38,10 +38,10 @@ fn every_field_of_the_trailer_is_broken() {
 }
 
 #[test]
-fn kinds_are_0_to_3_and_more_and_editions_0_to_2_and_more() {
+fn kinds_are_0_to_4_and_more_and_editions_0_to_2_and_more() {
     for stream in LAID_OUT_ALIKE {
-        let kinds: BTreeSet<u32> = trailers(stream).map(|it| it.kind.min(4)).collect();
-        assert_eq!(kinds.len(), 5, "{stream} {kinds:?}");
+        let kinds: BTreeSet<u32> = trailers(stream).map(|it| it.kind.min(5)).collect();
+        assert_eq!(kinds.len(), 6, "{stream} {kinds:?}");
         let trailers = images(stream).filter_map(|image| Trailer::read(&image));
         let editions: BTreeSet<u32> = trailers.map(|it| it.edition.min(3)).collect();
         assert_eq!(editions.len(), 4, "{stream} {editions:?}");

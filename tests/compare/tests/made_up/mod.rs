@@ -211,6 +211,13 @@ pub fn limits_of_nodes<const VALUES: usize>(grid: &Grid<VALUES>) -> Vec<(usize, 
     met
 }
 
+/// The bytes with another kind.
+pub fn with_kind(mut image: Vec<u8>, kind: u32) -> Vec<u8> {
+    let place = image.len() - 8;
+    image[place..place + 4].copy_from_slice(&kind.to_le_bytes());
+    image
+}
+
 /// A fix at a point, with height 0.
 pub fn fix(point: Point) -> Fix {
     Fix { point, height: 0 }

@@ -4,3 +4,4 @@ mod dense_grid;
 mod editions;
 mod files;
 mod past_the_edge;
+mod planes;

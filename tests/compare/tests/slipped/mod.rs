@@ -1,5 +1,6 @@
 //! A converter that behaves as the reference but for one planted slip.
 
+mod arranging;
 mod dense;
 mod dense_check;
 mod dense_images;
@@ -9,6 +10,8 @@ mod files;
 mod floats;
 mod heights;
 mod images;
+mod planes;
+mod planes_slip;
 mod sides;
 mod slip;
 mod subgrid_slip;
@@ -22,7 +25,8 @@ use compare::{Converter, FileRoom, Format, Reference, Way};
 use dense_images::lies_wrong;
 pub use dense_slip::DenseSlip;
 pub use file_slip::FileSlip;
-use reference::{convert_list, Axis, Notation, Number};
+pub use planes_slip::PlanesSlip;
+use reference::{convert_list, Arrangement, Axis, Notation, Number};
 pub use sides::Side;
 pub use slip::{Slip, TwoGridSlip};
 pub use subgrid_slip::SubgridSlip;
@@ -45,6 +49,7 @@ impl Slipped {
             Slip::TwoGrids(slip) => (slip.number_seen(image), slip.image_seen(image)),
             Slip::Dense(slip) => (slip.number_seen(image), slip.image_seen(image)),
             Slip::Unbounded(slip) => (slip.number_seen(image), slip.image_seen(image)),
+            Slip::Planes(slip) => (slip.number_seen(image), slip.image_seen(image)),
             _ => (None, image.to_vec()),
         };
         number.map_or(Ok(seen), Err)
@@ -163,6 +168,13 @@ impl Converter for Slipped {
             Slip::Files(slip) => slip.convert(format, file, room),
             Slip::Subgrid(slip) => slip.convert(file, room),
             _ => Reference.convert_file(format, file, room),
+        }
+    }
+
+    fn arrange(&self, arrangement: Arrangement, image: &mut [u8], buffer: &mut [u8]) -> Number {
+        match self.0 {
+            Slip::Planes(slip) => slip.arrange(arrangement, image, buffer),
+            _ => Reference.arrange(arrangement, image, buffer),
         }
     }
 }

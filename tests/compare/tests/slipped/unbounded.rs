@@ -10,7 +10,7 @@ use reference::{
 const ZERO: [Fraction; 2] = [Fraction::new(0, 1); 2];
 
 /// The image with another kind if it has this one.
-fn with_kind(image: &[u8], kind: u32, seen: u32) -> Vec<u8> {
+pub fn with_kind(image: &[u8], kind: u32, seen: u32) -> Vec<u8> {
     with_trailer(image, |trailer| {
         if trailer.kind == kind {
             trailer.kind = seen;

@@ -136,7 +136,7 @@ fn out_of_the_dense_grid_and_across_its_border() {
 fn the_order_of_the_questions() {
     let number = |changes: &[(usize, u8)]| open_image(&changed(changes)).err();
     assert_eq!(number(&[(260, 241), (96, 1)]), Some(1));
-    assert_eq!(number(&[(268, 3), (96, 1)]), Some(2));
+    assert_eq!(number(&[(268, 4), (96, 1)]), Some(2));
     assert_eq!(number(&[(96, 1), (215, 255)]), Some(3));
     assert_eq!(number(&[(100, 1), (215, 255)]), Some(3));
     assert_eq!(number(&[(91, 255), (203, 127)]), Some(4));

@@ -123,11 +123,11 @@ fn question_2_an_unknown_kind_precedes_the_36_bytes() {
             trailer.correction_back = u32::MAX;
         })
     };
-    for kind in [3, 4, 257, 1 << 24, u32::MAX] {
+    for kind in [4, 5, 257, 1 << 24, u32::MAX] {
         assert_eq!(number(kind), Some(2));
     }
     assert_eq!(number(1), Some(1));
-    assert_eq!([0, 2].map(number), [Some(6); 2]);
+    assert_eq!([0, 2, 3].map(number), [Some(6); 3]);
 }
 
 #[test]

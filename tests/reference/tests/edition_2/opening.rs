@@ -126,7 +126,7 @@ fn question_1_asks_for_40_bytes_then_after_the_edition_for_80() {
 #[test]
 fn question_1_precedes_the_kind() {
     let image = image_with(&TwoGridTrailer {
-        kind: 3,
+        kind: 4,
         ..trailer()
     });
     let number = |length| open_image(&image[image.len() - length..]).err();
@@ -141,11 +141,11 @@ fn question_2_an_unknown_kind_precedes_question_3() {
             (trailer.corrections.rows, trailer.heights.rows) = (1, 1);
         })
     };
-    for kind in [3, 4, 256, 258, 1 << 24, u32::MAX] {
+    for kind in [4, 5, 256, 258, 259, 1 << 24, u32::MAX] {
         assert_eq!(number(kind), Some(2));
     }
     assert_eq!(number(0), Some(3));
-    assert_eq!(number(2), Some(3));
+    assert_eq!([2, 3].map(number), [Some(3); 2]);
 }
 
 #[test]

@@ -1,9 +1,9 @@
 //! The made-up calls of kind 1: a dense grid inside the coarse one of the corrections.
 
 mod corrections;
-mod damage;
+pub(super) mod damage;
 mod fixes;
-mod grids;
+pub(super) mod grids;
 pub mod placing;
 
 use super::over_grids::{any_call_over, list_back, list_out, Grids};

@@ -8,7 +8,7 @@ use crate::cases::values::{any_manner, plane, Manner};
 use crate::cases::{geometry, values};
 use crate::random::Random;
 use crate::Way;
-use reference::{write_two_grids, Geometry, Image, Point, TwoGridTrailer};
+use reference::{write_planes, write_two_grids, Geometry, Image, Point, TwoGridTrailer};
 
 /// Two grids before they are written as an image of a kind that has no others.
 pub struct TwoGrids {
@@ -26,9 +26,13 @@ impl TwoGrids {
         }
     }
 
-    /// The image with a trailer.
+    /// The image with a trailer: the corrections are arranged as the grids' own kind has them.
     pub fn image_with(&self, trailer: &TwoGridTrailer) -> Vec<u8> {
-        write_two_grids(&self.corrections.nodes, &self.heights.nodes, trailer)
+        let write = match self.kind {
+            3 => write_planes,
+            _ => write_two_grids,
+        };
+        write(&self.corrections.nodes, &self.heights.nodes, trailer)
     }
 }
 

@@ -2,9 +2,9 @@
 //! may be missing.
 
 mod corrections;
-mod damage;
+pub(super) mod damage;
 mod fixes;
-mod grids;
+pub(super) mod grids;
 
 use super::over_grids::{any_call_over, list_back, list_out, Grids};
 use super::two_grids::has_largest_grids;

@@ -1,0 +1,2 @@
+-- Laws of the conversion.
+pub mod Places
