@@ -1,5 +1,7 @@
 // Numbers as the machine holds them: the size of a signed number, the distance of two, limits, the smaller and the larger of two, the
 // little-endian numbers of an image, read and written, and the big-endian ones of a VDatum file.
+#![tactic(auto)]
+
 ghost use Rattle.std.specs.Prelude.{◌&&◌, ◌++◌, ◌≡◌, ◌+◌, ◌≤◌, ◌<◌, min, max, pos, nat_abs, ◌-ℤ◌, length, drop};
 ghost use Rattle.rules.specs.Units.{between, within};
 ghost use Rattle.rules.specs.Image.{twos_complement, u32_at, u64_at, i32_at, i64_at};
