@@ -1,5 +1,7 @@
 // Kind 2's ways, from any point within question 7's limits: outside the bounds the corrections are zero, and off the height grid the answer
 // has no height. Questions 8, 10 and 15 are not put.
+#![tactic(auto)]
+
 ghost use Rattle.std.specs.Prelude.{◌≡◌, ◌≤◌, nat_abs};
 ghost use Rattle.rules.specs.Units.{out_height_limit, back_height_limit};
 ghost use Rattle.rules.specs.Image.{grid_of};

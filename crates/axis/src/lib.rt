@@ -1,4 +1,6 @@
 // One axis of a grid: its far bound, the angles on it, their offsets from its start, and the cells that these lie in.
+#![tactic(auto)]
+
 ghost use Rattle.std.specs.Prelude.{◌≡◌, true, ◌≤◌, nat_abs};
 ghost use Rattle.rules.specs.Units.{longitude_limit};
 ghost use Rattle.rules.specs.Image.{far_bound};
@@ -11,7 +13,7 @@ use numbers::smaller;
 use rules::Axis;
 
 // A cell's index along an axis, and an offset's part of the cell.
-#[derive(Drop)]
+#[derive(Clone, Copy)]
 pub struct AxisPlace {
     pub cell: u64,
     pub part: u64,

@@ -1,4 +1,6 @@
 // The way back over an opened image, from a Bessel point in the bounds and a NAP height to ETRS89.
+#![tactic(auto)]
+
 ghost use Rattle.std.specs.Prelude.{◌≡◌, ◌≤◌, nat_abs, ◌+ℤ◌};
 ghost use Rattle.rules.specs.Units.{back_height_limit, quasi_geoid_limit};
 ghost use Rattle.rules.specs.Image.{grid_of};

@@ -1,4 +1,6 @@
 // The bilinear value of document 01, exact in 64 bits.
+#![tactic(auto)]
+
 ghost use Rattle.std.specs.Prelude.{true, ◌≡◌, ◌+◌, ◌*◌, ◌≤◌, ◌<◌, pos, nat_abs, ◌+ℤ◌, ◌-ℤ◌, ◌*ℤ◌};
 ghost use Rattle.rules.specs.Units.{correction_limit};
 ghost use Rattle.rules.specs.Limits.{CornersWithin};
@@ -19,7 +21,7 @@ const NEAR: u64 = 32_767;
 const NEAR_AREA: u64 = 281_474_976_710_656;
 
 // What a division gives: the quotient, rounded down, and the remainder.
-#[derive(Drop)]
+#[derive(Clone, Copy)]
 pub struct Quotient {
     pub whole: u64,
     pub rest: u64,

@@ -1,6 +1,8 @@
 // The nodes on the border of a grid. Question 21: those of a dense grid beside the parent's exact value. The border lies on coarse grid
 // lines, where the exact value is that between two coarse nodes: one axis is enough, and 64 bits. Question 22: those of kind 2's
 // corrections are zero.
+#![tactic(auto)]
+
 ghost use Rattle.std.specs.Prelude.{true, ◌≡◌, ◌-◌, ◌*◌, ◌≤◌, ◌<◌, length};
 ghost use Rattle.rules.specs.Units.{longitude_limit, spacing_most};
 ghost use Rattle.rules.specs.Image.{plane, grid_of};
@@ -19,7 +21,7 @@ use steps::run_value;
 
 // The nodes of a plane as grid lines, its rows or its columns: a line for each node of the axis `across`, and on it a node for each of the
 // axis `along`. The first values of two neighbouring lines are `apart` bytes apart, those of two neighbours on a line `stride` bytes.
-#[derive(Drop)]
+#[derive(Clone, Copy)]
 struct Lines {
     across: Axis,
     along: Axis,

@@ -1,16 +1,18 @@
 // Whole decimal numbers of 64 bits, read from their text: digits, with a minus sign before them or not, and nothing else.
+#![tactic(auto)]
+
 ghost use Rattle.std.specs.Prelude.{◌≡◌, ◌≤◌, pos, neg_ℤ, length, drop};
 ghost use Rattle.decimal.specs.Text.{decimal_of, has_minus, digits_of, with_digit};
 
 // What a text is read as. Unreadable: it has no digit, or another byte, or its number does not fit.
-#[derive(Drop)]
+#[derive(Clone, Copy)]
 pub enum Decimal {
     Number(i64),
     Unreadable,
 }
 
 // The same of digits alone.
-#[derive(Drop)]
+#[derive(Clone, Copy)]
 pub enum Digits {
     Number(u64),
     Unreadable,

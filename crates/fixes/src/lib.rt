@@ -1,4 +1,6 @@
 // Lists of fixes: one call converts all its fixes the same way, out or back, into the answer list that is lent to it.
+#![tactic(auto)]
+
 ghost use Rattle.std.specs.Prelude.{true, ◌++◌, ◌∷◌, [], ◌≡◌, ◌+◌, ◌*◌, ◌≤◌, ◌<◌, length, drop};
 ghost use Rattle.rules.specs.Answers.{status_of, after};
 ghost use Rattle.rules.specs.Image.{grid_of};

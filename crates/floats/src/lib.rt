@@ -1,4 +1,6 @@
 // Floats by their bits: the nearest whole number of an f32 or an f64 at a scale, halves upward, exact in 64 bits.
+#![tactic(auto)]
+
 ghost use Rattle.std.specs.Prelude.{cond, ◌≡◌, ◌+◌, ◌-◌, ◌*◌, ◌^◌, ◌≤◌, ◌<◌};
 ghost use Rattle.rules.specs.Floats.{binary32, binary64, exponent_of, negative, mantissa, signed};
 ghost use Rattle.floats.specs.Sizes.{rounded_size, floored_size, Known, Usable, Power};
@@ -9,7 +11,7 @@ use numbers::{larger, smaller};
 use rules::{FloatFormat, Scale};
 
 // What a float becomes: a whole number within the limit; or none, where it is not finite or beyond the limit.
-#[derive(Drop)]
+#[derive(Clone, Copy)]
 pub enum Nearest {
     Whole(i64),
     Unfit,

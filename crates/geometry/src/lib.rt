@@ -1,4 +1,6 @@
 // The geometry of a grid: questions 3 to 5, the bounds of questions 8 and 10, and of two grids question 20.
+#![tactic(auto)]
+
 ghost use Rattle.std.specs.Prelude.{true, ◌≡◌, ◌≤◌};
 ghost use Rattle.rules.specs.Units.{longitude_limit};
 ghost use Rattle.rules.specs.Questions.{question3, question4, bounds_within, question5, questions_3_to_5};

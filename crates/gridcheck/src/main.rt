@@ -1,5 +1,7 @@
 // The program gridcheck: reads one grid image of at most 65,536 bytes from standard input and prints the grid check's findings, or the
 // refusal.
+#![tactic(auto)]
+
 use rules::{Checked, Findings, Steps};
 use slopes::grid_check;
 use streams::{print_field, print_refusal, read_image};

@@ -1,5 +1,7 @@
 // The lookups where heights stand on a separate grid: the corners of a point's cell on either grid, those of the corrections on the dense
 // grid where there is one and the point lies in its bounds, and the values between them; and kind 2's, at any point.
+#![tactic(auto)]
+
 ghost use Rattle.std.specs.Prelude.{◌≡◌, true, ◌&&◌, ◌+◌, ◌<◌, length};
 ghost use Rattle.rules.specs.Units.{correction_limit};
 ghost use Rattle.rules.specs.Image.{rows, columns, plane, grid_of};
@@ -24,14 +26,14 @@ use rules::{
 };
 
 // Both corrections at the corners of a cell.
-#[derive(Drop)]
+#[derive(Clone, Copy)]
 pub struct CorrectionSquares {
     pub latitude: Square,
     pub longitude: Square,
 }
 
 // The same of a point's cell, with the spacings of its grid and the point's place in it.
-#[derive(Drop)]
+#[derive(Clone, Copy)]
 pub struct CorrectionCorners {
     pub latitude: Square,
     pub longitude: Square,
@@ -40,7 +42,7 @@ pub struct CorrectionCorners {
 }
 
 // The heights at the corners of a point's cell on a height grid, likewise.
-#[derive(Drop)]
+#[derive(Clone, Copy)]
 pub struct HeightCorners {
     pub height: Square,
     pub spacings: Spacings,
@@ -48,20 +50,20 @@ pub struct HeightCorners {
 }
 
 // What reading the corners of a point's cell on either grid answers: they, or a refusal.
-#[derive(Drop)]
+#[derive(Clone, Copy)]
 pub enum CorrectionCell {
     Corners(CorrectionCorners),
     Refused(Refusal),
 }
 
-#[derive(Drop)]
+#[derive(Clone, Copy)]
 pub enum HeightCell {
     Corners(HeightCorners),
     Refused(Refusal),
 }
 
 // What the lookup of the corrections at a point answers: they, or a refusal.
-#[derive(Drop)]
+#[derive(Clone, Copy)]
 pub enum CorrectionLookup {
     Found(Correction),
     Refused(Refusal),

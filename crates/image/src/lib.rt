@@ -1,4 +1,6 @@
 // The opening of an image: its trailer is read and judged, and the layout of its values is answered.
+#![tactic(auto)]
+
 ghost use Rattle.std.specs.Prelude.{◌≡◌, true, List, ℕ, ◌≤◌, length};
 ghost use Rattle.rules.specs.Answers.{values};
 ghost use Rattle.rules.specs.Image.{two_grid_trailer_of, is_nested, is_unbounded, is_in_planes, correction_stride, to_longitudes};

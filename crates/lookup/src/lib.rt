@@ -1,4 +1,6 @@
 // The cell around a point, read from an opened image whose heights stand at the corrections' nodes, and the values at a point in a cell.
+#![tactic(auto)]
+
 ghost use Rattle.std.specs.Prelude.{◌≡◌, true, false, ◌+◌, ◌*◌, ◌≤◌, ◌<◌, length};
 ghost use Rattle.rules.specs.Units.{correction_limit};
 ghost use Rattle.rules.specs.Image.{grid_of, rows, columns};
@@ -18,14 +20,14 @@ use rules::{
 };
 
 // The spacings of a grid: document 01's P and Q.
-#[derive(Drop)]
+#[derive(Clone, Copy)]
 pub struct Spacings {
     pub latitude: u64,
     pub longitude: u64,
 }
 
 // The three values at the corners of a cell.
-#[derive(Drop)]
+#[derive(Clone, Copy)]
 pub struct CellCorners {
     pub latitude: Square,
     pub longitude: Square,
@@ -34,7 +36,7 @@ pub struct CellCorners {
 
 // A cell read from an image: the distance of its south side from the south bound of the corrections and of its west side from their west
 // bound, the spacings of its grid, the values at its corners, and the answer to question 9.
-#[derive(Drop)]
+#[derive(Clone, Copy)]
 pub struct HeldCell {
     pub south: u64,
     pub west: u64,
@@ -44,35 +46,35 @@ pub struct HeldCell {
 }
 
 // The corrections and the quasi-geoid height at a point.
-#[derive(Drop)]
+#[derive(Clone, Copy)]
 pub struct PointValues {
     pub correction: Correction,
     pub height: i64,
 }
 
 // What the lookup of all values at a point answers: they, or a refusal.
-#[derive(Drop)]
+#[derive(Clone, Copy)]
 pub enum PointLookup {
     Values(PointValues),
     Refused(Refusal),
 }
 
 // How far a point lies from the south and from the west bound.
-#[derive(Drop)]
+#[derive(Clone, Copy)]
 pub struct Offsets {
     pub northing: u64,
     pub easting: u64,
 }
 
 // Where a point lies in a cell: document 01's u and v, how far from its south and from its west side.
-#[derive(Drop)]
+#[derive(Clone, Copy)]
 pub struct PlaceInCell {
     pub u: u64,
     pub v: u64,
 }
 
 // The cell of a point, by row and column, and the point's place in it.
-#[derive(Drop)]
+#[derive(Clone, Copy)]
 pub struct CellPlace {
     pub row: u64,
     pub column: u64,

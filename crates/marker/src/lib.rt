@@ -1,4 +1,6 @@
 // The C interface (include/marker.h): each function checks all that it is given, and leaves what it was lent unchanged where it refuses.
+#![tactic(auto)]
+
 ghost use Rattle.std.specs.Prelude.{◌≡◌, length};
 ghost use Rattle.rules.specs.Answers.{status_of, after};
 ghost use Rattle.rules.specs.Check.{grid_check, findings_after};

@@ -1,4 +1,6 @@
 // The values of an opened image: each is read from the part of the image that begins at its row's first value.
+#![tactic(auto)]
+
 ghost use Rattle.std.specs.Prelude.{◌&&◌, ◌≡◌, ◌+◌, ◌*◌, ◌≤◌, ◌<◌, length, drop};
 ghost use Rattle.rules.specs.Units.{count_most, within};
 ghost use Rattle.rules.specs.Image.{rows, columns, plane, beside_of};
@@ -12,7 +14,7 @@ use numbers::{i32_at, is_within};
 use rules::{Plane, Square};
 
 // Two neighbouring values of a row.
-#[derive(Drop)]
+#[derive(Clone, Copy)]
 struct Pair {
     west: i64,
     east: i64,

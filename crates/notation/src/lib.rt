@@ -1,5 +1,6 @@
 // Degree notation: an angle in nd read from degrees, minutes, seconds and a letter, and written so.
 // In every function `longitude` names the axis: true for longitudes, false for latitudes.
+#![tactic(auto)]
 
 ghost use Rattle.std.specs.Prelude.{cond, ◌&&◌, ◌≡◌, ◌*◌, ◌^◌, ◌≤◌, ◌<◌, ltb, pos};
 ghost use Rattle.std.specs.Int.Signed.{lt_z};
@@ -18,7 +19,7 @@ const PER_DEGREE: u64 = 360000000;
 const PER_MINUTE: u64 = 6000000;
 
 // The side of zero that a letter means: N and E the positive one, S and W the negative one.
-#[derive(Drop)]
+#[derive(Clone, Copy)]
 enum Side {
     Positive,
     Negative,

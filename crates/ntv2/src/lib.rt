@@ -1,5 +1,7 @@
 // NTv2 .gsb files with one grid, or with one subgrid after its parent: each header becomes a geometry, and the nodes' shifts, f32 in
 // arcseconds, the correction nodes and the dense nodes of an image of edition 2.
+#![tactic(auto)]
+
 ghost use Rattle.std.specs.Prelude.{true, ◌++◌, ◌≡◌, ◌+◌, ◌*◌, ◌-◌, ◌≤◌, ◌<◌, nat_abs, length, drop};
 ghost use Rattle.rules.specs.Units.{count_most, correction_limit};
 ghost use Rattle.rules.specs.Answers.{ask, values};

@@ -1,4 +1,6 @@
 // The overview of an NTv2 .gsb file and the headers of its grids: eleven records each, of which a header becomes a geometry.
+#![tactic(auto)]
+
 ghost use Rattle.std.specs.Prelude.{◌≡◌, ◌+◌, ◌≤◌, ◌<◌, nat_abs, length, get_or};
 ghost use Rattle.rules.specs.Units.{longitude_limit};
 ghost use Rattle.rules.specs.Answers.{ask, values};

@@ -3,6 +3,8 @@
 // function over a record that holds a reference. So each of these is walked by hand (proofs/), and leaves the work to a function that the
 // kit covers, on the slice and the layout. An enum cannot hold a reference, so opening does not answer the record: the caller matches
 // `image::open` and makes the record of the layout found, as `way_out` does.
+#![tactic(auto)]
+
 ghost use Rattle.std.specs.Prelude.{◌≡◌};
 ghost use Rattle.rules.specs.Answers.{values};
 ghost use Rattle.rules.specs.Image.{layout_for};
@@ -18,14 +20,14 @@ use source::{is_inside, look_up_height};
 use ways::convert_over;
 
 // The lent bytes of an image, and the layout of its values.
-#[derive(Drop)]
+#[derive(Clone, Copy)]
 pub struct OpenedImage<'a> {
     pub bytes: &'a [u8],
     pub layout: Layout,
 }
 
 // A point and its height: what a conversion starts from.
-#[derive(Drop)]
+#[derive(Clone, Copy)]
 pub struct Fix {
     pub point: Point,
     pub height: i64,

@@ -1,4 +1,6 @@
 // The way out over an opened image, from an ETRS89 point in the bounds and a height within its limit to Bessel and NAP.
+#![tactic(auto)]
+
 ghost use Rattle.std.specs.Prelude.{◌≡◌, ◌≤◌, nat_abs, ◌-ℤ◌};
 ghost use Rattle.rules.specs.Units.{outHeightLimit, quasiGeoidLimit};
 ghost use Rattle.rules.specs.Image.{gridOf};

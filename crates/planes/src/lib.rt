@@ -1,4 +1,6 @@
 // Images of kind 0 and of kind 3, each converted into the other in a lent buffer: the same values, the corrections in another order.
+#![tactic(auto)]
+
 ghost use Rattle.std.specs.Prelude.{true, ◌++◌, ◌≡◌, ◌+◌, ◌-◌, ◌*◌, ◌≤◌, length, take, drop, set};
 ghost use Rattle.rules.specs.Answers.{values, status_of, after};
 ghost use Rattle.rules.specs.Image.{layout_for, node_count};

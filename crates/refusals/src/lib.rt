@@ -1,4 +1,6 @@
 // The numbers of refusals, for the calls that hand out a number.
+#![tactic(auto)]
+
 ghost use Rattle.std.specs.Prelude.{◌≡◌, pos};
 ghost use Rattle.rules.specs.Answers.{number_of};
 

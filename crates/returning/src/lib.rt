@@ -1,1 +1,3 @@
 // The return promise, proved over the rules for every image: all in specs/, no function.
+#![tactic(auto)]
+

@@ -1,5 +1,7 @@
 // The program roundtrip: prints for one fix, over the grid image on standard input, the way out and the quasi-geoid height where it ends,
 // both through an opened image, and then the whole trip: grid check, out and back.
+#![tactic(auto)]
+
 use decimal::{Decimal, read_decimal};
 use numbers::{distance, magnitude};
 use opened::{Fix, quasi_geoid_height, way_out};

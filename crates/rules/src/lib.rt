@@ -1,5 +1,6 @@
 // The types that document 01's rules speak of, and its limits as the code names them (specs/Units.antt has them for the rules). The rules
 // are in specs/, by document 01's sections; there is no function here.
+#![tactic(auto)]
 
 // Latitudes and longitudes are within 90 and 180 degrees of zero.
 pub const LATITUDE_LIMIT: u64 = 90_000_000_000;
@@ -32,7 +33,7 @@ pub const MOST_EVALUATIONS: u64 = 5;
 pub const NO_HEIGHT: u64 = 100;
 
 // One axis of a grid: the southern or western bound in nd, the spacing in nd, and the count of rows or columns.
-#[derive(Drop)]
+#[derive(Clone, Copy)]
 pub struct Axis {
     pub start: i64,
     pub spacing: u64,
@@ -40,7 +41,7 @@ pub struct Axis {
 }
 
 // Where the nodes of a grid lie: rows along the latitude, columns along the longitude.
-#[derive(Drop)]
+#[derive(Clone, Copy)]
 pub struct Geometry {
     pub latitude: Axis,
     pub longitude: Axis,
@@ -48,7 +49,7 @@ pub struct Geometry {
 
 // The trailer of edition 1, the image's last 40 bytes, as it stands. `back` is document 01's distance from the image's end to the first
 // node.
-#[derive(Drop)]
+#[derive(Clone, Copy)]
 pub struct Trailer {
     pub geometry: Geometry,
     pub back: u64,
@@ -57,14 +58,14 @@ pub struct Trailer {
 
 // A grid as edition 2 has it, in its trailer or, of a dense grid, before the correction nodes: its geometry, and the distance from the
 // image's end to its first node.
-#[derive(Drop)]
+#[derive(Clone, Copy)]
 pub struct GridTrailer {
     pub geometry: Geometry,
     pub back: u64,
 }
 
 // The trailer of edition 2, the image's last 80 bytes, but for the edition.
-#[derive(Drop)]
+#[derive(Clone, Copy)]
 pub struct TwoGridTrailer {
     pub corrections: GridTrailer,
     pub heights: GridTrailer,
@@ -73,7 +74,7 @@ pub struct TwoGridTrailer {
 
 // A plane of values in an image: a value for each node of a geometry. That of the first node is the i32 at byte `first`; the others follow
 // it, row after row, each `stride` bytes after the one before.
-#[derive(Drop)]
+#[derive(Clone, Copy)]
 pub struct Plane {
     pub geometry: Geometry,
     pub first: u64,
@@ -85,7 +86,7 @@ pub struct Plane {
 // answered too; and whether a dense grid lies inside that of the corrections, with the plane of its latitude corrections, each followed by
 // the node's longitude correction. Where there is no dense grid, `dense` is the plane of latitude corrections once more, and nothing reads
 // it.
-#[derive(Drop)]
+#[derive(Clone, Copy)]
 pub struct Layout {
     pub separate: bool,
     pub nested: bool,
@@ -98,14 +99,14 @@ pub struct Layout {
 
 // Values that follow each other in an image, those of a plane or of a row of it: the byte where the first begins, and how many bytes after
 // it the next one does.
-#[derive(Drop)]
+#[derive(Clone, Copy)]
 pub struct Run {
     pub first: u64,
     pub stride: u64,
 }
 
 // The same in each of the three planes.
-#[derive(Drop)]
+#[derive(Clone, Copy)]
 pub struct Runs {
     pub latitude: Run,
     pub longitude: Run,
@@ -113,21 +114,21 @@ pub struct Runs {
 }
 
 // A point in nd: ETRS89 or Bessel, as its use says.
-#[derive(Drop)]
+#[derive(Clone, Copy)]
 pub struct Point {
     pub latitude: i64,
     pub longitude: i64,
 }
 
 // The latitude and longitude correction at a point, in nd.
-#[derive(Drop)]
+#[derive(Clone, Copy)]
 pub struct Correction {
     pub latitude: i64,
     pub longitude: i64,
 }
 
 // One value at the four corners of a cell.
-#[derive(Drop)]
+#[derive(Clone, Copy)]
 pub struct Square {
     pub southwest: i64,
     pub southeast: i64,
@@ -136,14 +137,14 @@ pub struct Square {
 }
 
 // The two ways of a conversion: out, from ETRS89 to Bessel and NAP, and back.
-#[derive(Drop)]
+#[derive(Clone, Copy)]
 pub enum Way {
     Out,
     Back,
 }
 
 // The values of a conversion: the point, its height, and the evaluation count.
-#[derive(Drop)]
+#[derive(Clone, Copy)]
 pub struct Position {
     pub latitude: i64,
     pub longitude: i64,
@@ -152,14 +153,14 @@ pub struct Position {
 }
 
 // The largest absolute steps of one value between neighbours: document 01's A in latitude, B in longitude.
-#[derive(Drop)]
+#[derive(Clone, Copy)]
 pub struct Steps {
     pub northward: u64,
     pub eastward: u64,
 }
 
 // What a passed grid check reports of the three values.
-#[derive(Drop)]
+#[derive(Clone, Copy)]
 pub struct Findings {
     pub latitude: Steps,
     pub longitude: Steps,
@@ -167,7 +168,7 @@ pub struct Findings {
 }
 
 // An angle in degrees, minutes and `fraction`, the hundred-thousandths of a second, with the byte of its letter.
-#[derive(Drop)]
+#[derive(Clone, Copy)]
 pub struct Notation {
     pub degrees: u64,
     pub minutes: u64,
@@ -176,21 +177,21 @@ pub struct Notation {
 }
 
 // The bits of a float, the lowest first: so many of its fraction, so many of its exponent, and one of its sign.
-#[derive(Drop)]
+#[derive(Clone, Copy)]
 pub struct FloatFormat {
     pub fraction: u64,
     pub exponent: u64,
 }
 
 // A factor, over / under.
-#[derive(Drop)]
+#[derive(Clone, Copy)]
 pub struct Scale {
     pub over: u64,
     pub under: u64,
 }
 
 // The refusals, in the order of their numbers, 1 to 22.
-#[derive(Drop)]
+#[derive(Clone, Copy)]
 pub enum Refusal {
     ImageLength,
     Edition,
@@ -218,14 +219,14 @@ pub enum Refusal {
 
 // What opening an image answers: whether its heights stand on a separate grid, which with its trailer says where its values lie; or a
 // refusal.
-#[derive(Drop)]
+#[derive(Clone, Copy)]
 pub enum Opened {
     Separate(bool),
     Refused(Refusal),
 }
 
 // What the lookup of the quasi-geoid height at a point answers: the height, that there is none, or a refusal.
-#[derive(Drop)]
+#[derive(Clone, Copy)]
 pub enum HeightLookup {
     Height(i64),
     NoHeight,
@@ -233,7 +234,7 @@ pub enum HeightLookup {
 }
 
 // What a conversion answers: values, values without a height, or a refusal. Without a height, 0 stands for it.
-#[derive(Drop)]
+#[derive(Clone, Copy)]
 pub enum Answer {
     Values(Position),
     WithoutHeight(Position),
@@ -241,63 +242,63 @@ pub enum Answer {
 }
 
 // What the grid check answers.
-#[derive(Drop)]
+#[derive(Clone, Copy)]
 pub enum Checked {
     Passed(Findings),
     Refused(Refusal),
 }
 
 // What reading a notation answers: an angle in nd.
-#[derive(Drop)]
+#[derive(Clone, Copy)]
 pub enum Reading {
     Angle(i64),
     Refused(Refusal),
 }
 
 // What writing an angle answers.
-#[derive(Drop)]
+#[derive(Clone, Copy)]
 pub enum Writing {
     Written(Notation),
     Refused(Refusal),
 }
 
 // What reading an axis of a grid file's header answers: none, where a number of it is unfit.
-#[derive(Drop)]
+#[derive(Clone, Copy)]
 pub enum AxisRead {
     Fit(Axis),
     Unfit,
 }
 
 // What the conversion of a grid file answers: the geometry of the nodes that it wrote.
-#[derive(Drop)]
+#[derive(Clone, Copy)]
 pub enum FileAnswer {
     Converted(Geometry),
     Refused(Refusal),
 }
 
 // The geometries of the grids of an NTv2 file: of its first grid, and of the dense one inside it, or zeros where it has none.
-#[derive(Drop)]
+#[derive(Clone, Copy)]
 pub struct FileGrids {
     pub coarse: Geometry,
     pub dense: Geometry,
 }
 
 // What the conversion of an NTv2 file answers: the geometries of the nodes that it wrote.
-#[derive(Drop)]
+#[derive(Clone, Copy)]
 pub enum FileGridsAnswer {
     Converted(FileGrids),
     Refused(Refusal),
 }
 
 // The way out's answer of a trip, and what it gives when it is taken back.
-#[derive(Drop)]
+#[derive(Clone, Copy)]
 pub struct Trip {
     pub outward: Position,
     pub returned: Position,
 }
 
 // What a trip answers: both answers with a height, both without one, or a refusal.
-#[derive(Drop)]
+#[derive(Clone, Copy)]
 pub enum TripAnswer {
     Returned(Trip),
     WithoutHeights(Trip),

@@ -1,4 +1,6 @@
 // The grid check: questions 1 to 6; question 9 over all nodes, questions 22, 12 and 21.
+#![tactic(auto)]
+
 ghost use Rattle.std.specs.Prelude.{true, ◌&&◌, ◌≡◌, length};
 ghost use Rattle.rules.specs.Answers.{values};
 ghost use Rattle.rules.specs.Image.{grid_of};

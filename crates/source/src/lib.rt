@@ -1,5 +1,7 @@
 // What a way asks of an opened image at a point: whether it is in the bounds, the corrections and the quasi-geoid height together, or the
 // height alone. The choice between heights at the corrections' nodes and heights on a separate grid is made here.
+#![tactic(auto)]
+
 ghost use Rattle.std.specs.Prelude.{◌≡◌, false, ◌||◌};
 ghost use Rattle.rules.specs.Image.{grid_of};
 ghost use Rattle.rules.specs.Limits.{GeometryPasses, OpenAround, OpenFor};

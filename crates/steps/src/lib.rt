@@ -1,4 +1,6 @@
 // The steps between neighbours along a row, of a node's three values, of its two corrections or of one value, with question 9 of each node.
+#![tactic(auto)]
+
 ghost use Rattle.std.specs.Prelude.{◌≡◌, ◌≤◌, length};
 ghost use Rattle.steps.specs.Walk.{ValueInside, NodeInside, RunInside, RowInside, run_value, node_of, node_passes, Narrow, NarrowNode};
 ghost use Rattle.steps.specs.Walk.{no_steps, no_findings, with_node, with_nodes, walked_of, value_walked_of, row_walk, values_walk};
@@ -9,7 +11,7 @@ use numbers::{i32_at, is_within, larger, magnitude, three_within};
 use rules::{CORRECTION_LIMIT, Correction, Findings, QUASI_GEOID_LIMIT, Run, Runs, Steps};
 
 // The three values of a node.
-#[derive(Drop)]
+#[derive(Clone, Copy)]
 pub struct Node {
     pub latitude: i64,
     pub longitude: i64,
@@ -17,35 +19,35 @@ pub struct Node {
 }
 
 // What a walk over nodes finds: all are within question 9's limits, with the largest steps so far; or one is beyond them.
-#[derive(Drop)]
+#[derive(Clone, Copy)]
 pub enum Walk {
     Largest(Findings),
     Beyond,
 }
 
 // The same of one value.
-#[derive(Drop)]
+#[derive(Clone, Copy)]
 pub enum ValueWalk {
     Largest(Steps),
     Beyond,
 }
 
 // Where a row's corrections lie in their two planes.
-#[derive(Drop)]
+#[derive(Clone, Copy)]
 pub struct CorrectionRuns {
     pub latitude: Run,
     pub longitude: Run,
 }
 
 // The largest steps of both corrections.
-#[derive(Drop)]
+#[derive(Clone, Copy)]
 pub struct CorrectionSteps {
     pub latitude: Steps,
     pub longitude: Steps,
 }
 
 // What a walk over nodes of corrections finds.
-#[derive(Drop)]
+#[derive(Clone, Copy)]
 pub enum CorrectionWalk {
     Largest(CorrectionSteps),
     Beyond,

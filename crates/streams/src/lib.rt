@@ -1,4 +1,6 @@
 // What the programs read and print alike: one image from standard input, and a refusal with its number.
+#![tactic(auto)]
+
 ghost use Rattle.io.specs.Counts.{IsPrefixLen};
 
 use numbers::magnitude;

@@ -1,4 +1,6 @@
 // The trailers of both editions, read from an image's last bytes, and the geometry of a dense grid.
+#![tactic(auto)]
+
 ghost use Rattle.std.specs.Prelude.{◌≡◌, ◌+◌, ◌≤◌, length};
 ghost use Rattle.rules.specs.Image.{geometry_at, trailer_of, edition_of, two_grid_trailer_of, dense_trailer_of};
 

@@ -1,4 +1,6 @@
 // The return promise on running code: grid check, way out and way back of one fix, in turn.
+#![tactic(auto)]
+
 ghost use Rattle.std.specs.Prelude.{◌≡◌};
 ghost use Rattle.rules.specs.Trip as rule;
 ghost use Rattle.trip.specs.Back.{same_number};

@@ -1,4 +1,6 @@
 // One evaluation of the way out: questions 9 and 10, and the stop rule.
+#![tactic(auto)]
+
 ghost use Rattle.std.specs.Prelude.{◌≡◌, true};
 ghost use Rattle.rules.specs.Limits.{PointWithin, PointReached, CorrectionWithin};
 ghost use Rattle.rules.specs.Lookup.{inside};
@@ -12,7 +14,7 @@ use numbers::is_within;
 use rules::{Correction, Geometry, Point, Refusal};
 
 // What one evaluation leads to: a refusal, the point that the stop rule takes, or the point to evaluate next.
-#[derive(Drop)]
+#[derive(Clone, Copy)]
 pub enum Turn {
     Refused(Refusal),
     Settled(Point),

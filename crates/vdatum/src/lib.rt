@@ -1,4 +1,6 @@
 // VDatum .gtx files: the header becomes a geometry and the nodes, f32 in metres, the height nodes of an image of edition 2.
+#![tactic(auto)]
+
 ghost use Rattle.std.specs.Prelude.{true, ◌&&◌, ◌≡◌, ◌+◌, ◌*◌, ◌/◌, ◌≤◌, eqb, nat_abs, length};
 ghost use Rattle.rules.specs.Units.{count_most, quasi_geoid_limit};
 ghost use Rattle.rules.specs.Answers.{ask, values};

@@ -1,4 +1,6 @@
 // Questions 2 to 6 put to a trailer and an image's length, of either edition, and question 20.
+#![tactic(auto)]
+
 ghost use Rattle.std.specs.Prelude.{◌≡◌, true, ◌*◌, ◌≤◌};
 ghost use Rattle.rules.specs.Units.{count_most};
 ghost use Rattle.rules.specs.Image.{rows, columns, is_unbounded, is_in_planes, layout_of, two_grid_layout_of, nested_layout_of};
@@ -10,7 +12,7 @@ use geometry::{bounds_pass, counts_pass, is_aligned, spacings_pass};
 use rules::{Geometry, GridTrailer, Refusal, Trailer, TwoGridTrailer};
 
 // Whether the questions put to a trailer have the answer yes, or the first refusal.
-#[derive(Drop)]
+#[derive(Clone, Copy)]
 pub enum Verdict {
     Passes,
     Refused(Refusal),

@@ -1,5 +1,7 @@
 // The walks over the nodes of an opened image: question 9 of each, and the largest steps between neighbours. In edition 2 one walk goes
 // over the heights and one over the correction nodes; the latter goes over dense nodes too.
+#![tactic(auto)]
+
 ghost use Rattle.std.specs.Prelude.{◌≡◌, ◌<◌, length};
 ghost use Rattle.rules.specs.Image.{rows, plane, grid_of};
 ghost use Rattle.rules.specs.Limits.{InImage, Open};

@@ -1,4 +1,6 @@
 // A conversion, out or back, for every image, point and height: questions 1 to 8, then the way.
+#![tactic(auto)]
+
 ghost use Rattle.std.specs.Prelude.{◌||◌, ◌≡◌, eqb, length};
 ghost use Rattle.rules.specs.Image.{grid_of};
 ghost use Rattle.rules.specs.Limits.{Open};
