@@ -1,9 +1,9 @@
 -- Kind 2's trips from anywhere: every fix within question 7's limits goes out and back, without a margin. Its answer stays within these
 -- limits, because on a bound at 90 or 180 degrees, and past it, the correction is zero.
-use Rattle.std.specs.Prelude.{Bool, true, false, List, ◌≡◌, refl, ℕ, ◌+◌, ◌≤◌, ℤ, pos, nat_abs, ◌+ℤ◌, ◌-ℤ◌}
+use Rattle.std.specs.Prelude.{Bool, true, false, List, ◌≡◌, refl, ℕ, ◌+◌, ◌≤◌, pos, nat_abs, ◌+ℤ◌, ◌-ℤ◌}
 use Rattle.std.proofs.Common.{inl, inr, ap, ◌∙◌, arith}
 use Rattle.std.proofs.Math.Decide.{dec_le}
-use Rattle.std.proofs.Math.IntN.{-ℤ-+ℤ_cancel}
+use Rattle.std.proofs.Math.IntN.{ℤ, -ℤ-+ℤ_cancel}
 use Rattle.integers.specs.Difference.{up, down, order, var}
 use Rattle.integers.specs.Distance.{Near, size, abs_is}
 use Rattle.rules.specs.declared.Layout.{Layout}

@@ -12,7 +12,7 @@ use Rattle.rules.specs.Limits.{Sized, GeometryPasses}
 use Rattle.rules.specs.Bilinear.{value_at}
 use Rattle.rules.specs.Lookup.{on_axis, inside}
 use Rattle.rules.specs.Dense.{question20}
-use Rattle.rules.specs.Check.{rows_agree_lem, border_agrees}
+use Rattle.rules.specs.Check.{rows_agree, border_agrees}
 use Rattle.rules.proofs.Cells.{on_latitude, on_longitude}
 use Rattle.rules.proofs.Nesting.{AtNode, at_line, Aligned, latitude_aligned, longitude_aligned}
 use Rattle.returning.specs.GridLines.{Along, along_row_lem, along_column, value_along}
@@ -48,13 +48,13 @@ module _ {C D : Geometry} (o : GeometryPasses C) (q : GeometryPasses D) (a : que
   unfolding border_agrees
   border_near e f t p i (inl b) =
       let l = latitude_aligned C D a in
-      let rows = rw (rows_agree_lem o D a e f) at (and_left (rows_agree_lem C D e f) _ t) in
+      let rows = rw (rows_agree_lem o D a e f) at (and_left (rows_agree C D e f) _ t) in
       let s = side C.longitude D.longitude e f q.latitude.sized l rows p.latitude b in
       on_side o.longitude.sized q.longitude.sized (longitude_aligned C D a) s.2.agrees (on_longitude D p i)
       (along_row_lem o e p _ s.2.coarse) (along_row_lem q f p _ s.1)
   border_near e f t p i (inr b) =
       let l = longitude_aligned C D a in
-      let columns = rw (columns_agree_lem o D a e f) at (and_right (rows_agree_lem C D e f) _ t) in
+      let columns = rw (columns_agree_lem o D a e f) at (and_right (rows_agree C D e f) _ t) in
       let s = side C.latitude D.latitude (λ column row. e row column) (λ column row. f row column)
       q.longitude.sized l columns p.longitude b in
       on_side o.latitude.sized q.latitude.sized (latitude_aligned C D a) s.2.agrees (on_latitude D p i)

@@ -14,7 +14,7 @@ use Rattle.rules.specs.Image.{far_bound, rows, columns}
 use Rattle.rules.specs.Limits.{Sized, AxisPasses, GeometryPasses}
 use Rattle.rules.specs.Bilinear.{part_for, value_at}
 use Rattle.rules.specs.Lookup.{on_axis, inside}
-use Rattle.rules.specs.Check.{both_zero_lem, border_zero}
+use Rattle.rules.specs.Check.{both_zero, border_zero}
 use Rattle.rules.proofs.Cells.{from_start, to_far, on_latitude, on_longitude}
 use Rattle.rules.proofs.Largest.{every_at}
 use Rattle.returning.specs.Points.{SteadyValue}
@@ -30,8 +30,8 @@ use Rattle.returning.specs.Passing.{NodesPass, steady_value}
 abbrev AllZero : ℕ → (ℕ → ℤ) → Type 0
 AllZero n h = (i : ℕ) → i < n → nat_abs (h i) ≤ 0
 
-both_zero_lem : (n : ℕ) (h k : ℕ → ℤ) → both_zero_lem n h k ≡ true → AllZero n h × AllZero n k
-unfolding both_zero_lem
+both_zero_lem : (n : ℕ) (h k : ℕ → ℤ) → both_zero n h k ≡ true → AllZero n h × AllZero n k
+unfolding both_zero
 both_zero_lem n h k t =
     let at = every_at n (λ i. within 0 (h i) && within 0 (k i)) t in
     (λ i l. leb-true _ _ (and_left _ _ (at i l)), λ i l. leb-true _ _ (and_right (within 0 (h i)) _ (at i l)))

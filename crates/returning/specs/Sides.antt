@@ -106,9 +106,9 @@ agrees_along {c} {d} {h} D f row column i a s =
     ∙ node_test a h (f row column) i
 
 module _ {C : Geometry} (o : GeometryPasses C) (D : Geometry) (q : question20 C D ≡ true) (e f : ℕ → ℕ → ℤ) where
-  pub rows_agree : rows_agree C D e f ≡ sides_agree C.latitude D.latitude C.longitude D.longitude e f
+  pub rows_agree_lem : rows_agree C D e f ≡ sides_agree C.latitude D.latitude C.longitude D.longitude e f
   unfolding rows_agree side_agrees
-  rows_agree =
+  rows_agree_lem =
       let a = latitude_aligned C D q in
       let b = longitude_aligned C D q in
       (λ t. every (columns D) (λ column.

@@ -1,10 +1,10 @@
 -- Out and back, and back and out, over any source whose corrections and heights are limited and change slowly: the angles' half
 -- (Angles.antt), and the heights' half, which asks for a height only at the Bessel points of a trip.
-use Rattle.std.specs.Prelude.{Bool, true, false, List, ◌≡◌, ℕ, ◌≤◌, ℤ, nat_abs, ◌+ℤ◌, ◌-ℤ◌}
+use Rattle.std.specs.Prelude.{Bool, true, false, List, ◌≡◌, ℕ, ◌≤◌, nat_abs, ◌+ℤ◌, ◌-ℤ◌}
 use Rattle.std.proofs.Common.{sym, ◌∙◌, arith, le-leb}
 use Rattle.std.proofs.Math.Path.{ap}
-use Rattle.std.proofs.Math.IntN.{-ℤ-+ℤ_cancel}
-use Rattle.integers.specs.Difference.{var, _⊕_, _⊖_}
+use Rattle.std.proofs.Math.IntN.{ℤ, -ℤ-+ℤ_cancel}
+use Rattle.integers.specs.Difference.{var, ◌⊕◌, ◌⊖◌}
 use Rattle.integers.specs.Distance.{Near, size, abs_add, abs_is}
 use Rattle.integers.specs.Booleans.{and_both}
 use Rattle.rules.specs.declared.Layout.{Layout}

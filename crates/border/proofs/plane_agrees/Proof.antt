@@ -9,7 +9,7 @@ use Rattle.rules.specs.declared.Plane.{Plane}
 use Rattle.rules.specs.Image.{plane}
 use Rattle.rules.specs.Limits.{GeometryPasses}
 use Rattle.rules.specs.Dense.{axis_aligned, question20}
-use Rattle.rules.specs.Check.{rows_agree_lem, columns_agree, border_agrees}
+use Rattle.rules.specs.Check.{rows_agree, columns_agree, border_agrees}
 use Rattle.returning.specs.Sides.{sides_agree, rows_agree_lem, columns_agree_lem}
 use Rattle.border.specs.Lines.{rows_of, columns_of, lines_agree}
 use Rattle.border.proofs.PlaneLines.{row_value, column_value, rows_inside, columns_inside}
@@ -37,7 +37,7 @@ sides_agree_requires_2 c κs =
 
 -- the sides by line are those by row and column
 module _ (b : List ℕ) (c d : Plane) (o : GeometryPasses c.geometry) (q : question20 c.geometry d.geometry ≡ true) where
-  by_rows : lines_agree b (rows_of c) (rows_of d) ≡ rows_agree_lem c.geometry d.geometry (plane b c) (plane b d)
+  by_rows : lines_agree b (rows_of c) (rows_of d) ≡ rows_agree c.geometry d.geometry (plane b c) (plane b d)
   by_rows =
       let g = c.geometry in
       let h = d.geometry in
@@ -56,7 +56,7 @@ module _ (b : List ℕ) (c d : Plane) (o : GeometryPasses c.geometry) (q : quest
 -- the rows' answer, and the columns'
 rows : (c : tie.After-sides-agree) → let s = c.before.before.before.before.args in
     let b = s.image.now in
-    c.sides-agree.result ≡ rows_agree_lem s.coarse.geometry s.dense.geometry (plane b s.coarse) (plane b s.dense)
+    c.sides-agree.result ≡ rows_agree s.coarse.geometry s.dense.geometry (plane b s.coarse) (plane b s.dense)
 rows c =
     let r = c.before in
     let s = r.before.before.before in
