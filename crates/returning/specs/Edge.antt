@@ -67,7 +67,7 @@ module _ {g : Geometry} (o : GeometryPasses g) (f : ℕ → ℕ → ℤ) (t : bo
       let n = bound_node o.latitude.sized (λ z row. AllZero (columns g) (f row)) z.0 z.1 p.latitude b in
       on_line_lem o.longitude.sized n.2 (on_longitude g p i) (along_row_lem o f p n.0 n.1)
   border_zero_lem p i (inr b) =
-      let first = both_zero_lem (columns g) (f 0) (f (rows g - 1)) in
+      let first = both_zero (columns g) (f 0) (f (rows g - 1)) in
       let z = both_zero_lem (rows g) (λ row. f row 0) (λ row. f row (columns g - 1)) (and_right first _ t) in
       let n = bound_node o.longitude.sized (λ z column. AllZero (rows g) (λ row. f row column)) z.0 z.1 p.longitude b in
       on_line_lem o.latitude.sized n.2 (on_latitude g p i) (along_column o f p n.0 n.1)

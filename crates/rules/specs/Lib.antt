@@ -13,25 +13,25 @@
 --     A × B, (x : A) × C       both A and B; an x of A for which C holds
 --     Bool, ℕ, ℤ               true or false; the numbers from 0 up, `zero` and `suc n`, which is n + 1; all whole numbers, `pos n`, which
 --                              is n, and `negsuc n`, which is −(n + 1)
---     _+_ _-_ _*_ _/_ _%_ _^_  on ℕ: a - b is 0 where b is above a; a / b is rounded down, a % b is the remainder, a ^ b the power; `min`
+--     ◌+◌ ◌-◌ ◌*◌ ◌/◌ ◌%◌ ◌^◌  on ℕ: a - b is 0 where b is above a; a / b is rounded down, a % b is the remainder, a ^ b the power; `min`
 --                              and `max`
---     _+ℤ_ _-ℤ_ _*ℤ_ negℤ      on ℤ: sum, difference, product, negative; `nat_abs`, the absolute value, in ℕ
---     leb ltb eqb, leZ ltZ     the answer, true or false, to: at most, below, equal, on ℕ; at most, below, on ℤ
---     _&&_ _||_ cond           and, or; `cond t a b` is a where t is true, else b
+--     ◌+ℤ◌ ◌-ℤ◌ ◌*ℤ◌ neg_ℤ     on ℤ: sum, difference, product, negative; `nat_abs`, the absolute value, in ℕ
+--     leb ltb eqb, le_z lt_z   the answer, true or false, to: at most, below, equal, on ℕ; at most, below, on ℤ
+--     ◌&&◌ ◌||◌ cond           and, or; `cond t a b` is a where t is true, else b
 --     [], x ∷ l, l ++ k        lists: none, x before l, l before k; `length`; `get_or l i d`, element i, counted from 0, or d past the end
 --                              `take n l`, its first n, `drop n l`, the rest; `set l i x`, l with x for element i
 --     "A B", code              a text, `text.[]` or a letter `text.◌∷◌` a text; the ASCII code of a letter
---     _≡_ _≤_ _≤ℤ_, ⊥          claims: equal, at most; the one that never holds; `refl` proves what computes to the same
+--     ◌≡◌ ◌≤◌ ◌≤ℤ◌, ⊥          claims: equal, at most; the one that never holds; `refl` proves what computes to the same
 -- `abbrev`, `unfoldable` and `unfolding` say where the checker sees through a definition; they do not change what it is.
 --
--- How to read a contract (crates/*/src/lib.rt). A clause is a claim between ⌜ and ⌝ about the function's parameters, each by its name, an
--- unsigned one read as ℕ and a signed one as ℤ; a name with _ in it stands between « and ».
---     requires { ⌜ A ⌝ }           what every caller is proved to meet; an entry point has none
---     ensures { λ r. ⌜ A ⌝ }       what holds of the result r whenever the function returns, which it always does. Several clauses all
---                                  hold; a word before { is a clause's name
---     now s                        in a `requires`: the list of the slice's elements, or the number behind a reference
---     now s.entry, s.exit    in an `ensures`: the same when the function was called, and when it returned
---     x.entry                     a record that holds a reference, as it was when the function was called
+-- How to read a contract (crates/*/src/lib.rt). A clause is a claim about the function's parameters, each by its name, an unsigned one read
+-- as ℕ and a signed one as ℤ; a name that is a word of these stands between « and ».
+--     requires { A }               what every caller is proved to meet; an entry point has none
+--     ensures { A }                what holds of the `result` whenever the function returns, which it always does. Several clauses all hold;
+--                                  a word before { is a clause's name
+--     s.now                        the list of the slice's elements, or the number behind a reference
+--     s.old, s.new                 of a `&mut`: the same when the function was called, and when it returned
+--     x.entry                      a record that holds a reference, as it was when the function was called
 pub mod Units
 pub mod Answers
 pub mod Image
