@@ -1,18 +1,14 @@
 -- The angles' half of the trips, over any source with steady corrections: the way out settles, its answer goes back to the fix, and a
 -- Bessel point returns. These are the laws of the iteration with the promise's numbers, which each proof takes from its statement. Nothing
 -- here asks for a height.
-use Rattle.std.specs.Prelude.{true, ◌≡◌, ℕ, suc, ◌≤◌, ◌<◌, ◌^◌}
-use Rattle.std.proofs.Common.{arith}
+use Rattle.std.specs.Prelude.{true, ◌≡◌, ℕ, suc, ◌≤◌}
 use Rattle.rules.specs.declared.Point.{Point}
 use Rattle.rules.specs.declared.Correction.{Correction}
-use Rattle.rules.specs.Units.{correction_limit, fix_margin, point_margin, stop_distance, most_evaluations}
+use Rattle.rules.specs.Units.{correction_limit, stop_distance, most_evaluations}
 use Rattle.rules.specs.Answers.{values}
 use Rattle.rules.specs.Ways.{Source, plus, Settled, iterate}
-use Rattle.rules.proofs.Evaluations.{counted}
-use Rattle.returning.specs.Points.{Close, close_self, close_mono, Room, room_itself, room_around}
-use Rattle.returning.specs.Interpolation.{hundredth}
-use Rattle.returning.specs.Iteration.{Solution, sound, itself, SteadyCorrections}
-use Rattle.returning.specs.Iteration.{solution_near, back_near, back_within, apart, settles}
+use Rattle.returning.specs.Points.{Close}
+use Rattle.returning.specs.Iteration.{Solution, SteadyCorrections}
 
 -- A stop distance, where corrections of points at most D apart differ by at most `allowed D`. The distances from one point of the way out
 -- to the next shrink by way of `reach 4`, `reach 3`, … to it, which is enough for corrections up to question 9's limit; and an answer goes
@@ -26,21 +22,6 @@ pub record StopRule : Type 0 where
   pub shrinks : (k : ℕ) → allowed (reach (suc k)) ≤ reach k
   pub enough : correction_limit ≤ reach 4
   pub returns : allowed stop ≤ returned
-
--- Without a dense grid: 1 nd, and a change of one in a hundred, rounded up. A step of at most 100 ^ (k + 1) is followed by one of at most
--- 100 ^ k, and a fix returns within 1 nd.
-abbrev pub stop_at_one : StopRule
-stop_at_one =
-    record {
-      stop = stop_distance;
-      allowed = hundredth;
-      returned = 1;
-      reach = λ k. 100 ^ k;
-      stops = omega arith;
-      shrinks = λ k. omega arith;
-      enough = omega arith;
-      returns = omega arith;
-    }
 
 -- What the angles' half asks of a source: the rule's stop distance, and corrections that are steady, within question 9's limit and with the
 -- rule's change.
@@ -56,58 +37,8 @@ pub record Settles (s : Source) (stop : ℕ) (p : Point) (most : ℕ) : Type 0 w
   pub at_most : end.count ≤ most
   pub solution : Solution s stop p end.point
 
-module _ {s : Source} {at : Point → Correction} {M : ℕ} (rule : StopRule) (S : SteadyCorrections s at rule.allowed M) where
-  -- Where corrections are at most `reach k`: after at most k + 1 evaluations.
-  pub settles_after : (k : ℕ) → k < most_evaluations → M ≤ rule.reach k → (p : Point) → Room s.inside M p
-      → Settles s rule.stop p (suc k)
-  settles_after k h l p room =
-      let stop = rule.stop in
-      let i = room_itself p room in
-      let v = settles S stop rule.reach rule.stops rule.shrinks p room k 4 (omega arith) l in
-      record {
-        end = v.end;
-        is = v.is;
-        at_least_one = (counted s stop p most_evaluations 0 p i v.end v.is).0;
-        at_most = v.at_most;
-        solution = sound s stop p most_evaluations 0 p i v.end v.is;
-      }
-
-module _ {s : Source} {at : Point → Correction} {rule : StopRule} (a : SteadyAngles s at rule) where
-  -- A fix inside the margin goes out after at most five evaluations, to a point within the corrections' limit of it, which goes back to
-  -- within the rule's distance of the fix.
-  pub goes_out : (p : Point) → Room s.inside fix_margin p → Settles s rule.stop p most_evaluations
-  goes_out p room =
-      settles_after rule a.corrections 4 (omega arith) rule.enough p (room_around (omega arith) (close_self 0 p) room)
-
-  pub out_near : {p q : Point} → Solution s rule.stop p q → Close correction_limit q p
-  out_near v = solution_near a.corrections v
-
-  pub fix_returns : {p q : Point} → Solution s rule.stop p q → Close rule.returned (plus q (at q)) p
-  fix_returns v = close_mono rule.returns (back_within a.corrections v)
-
--- ---- without a dense grid
-module _ {s : Source} {at : Point → Correction} {M : ℕ} (S : SteadyCorrections s at hundredth M) where
-  -- Every other point that goes back to within 1 nd of the fix lies within 3 nd of the answer.
-  pub others_near : {p q r q' : Point} → Solution s stop_distance p q → Solution s 0 r q' → Close 1 r p → Close 3 q' q
-  others_near v w h = apart S (λ D. omega arith) w v h
-
-  -- A Bessel point returns within 2 nd.
-  pub point_returns : {p q q' : Point} → Solution s stop_distance p q → Solution s 0 p q' → Close 2 q q'
-  point_returns {p} v w = apart S (λ D. omega arith) v w (close_self 0 p)
-
 -- A Bessel point q goes back to a point in the bounds, and the way out of that settles at one within 2 nd of q.
 pub record ReturnsNear (s : Source) (at : Point → Correction) (q : Point) : Type 0 where
   pub in_bounds : s.inside (plus q (at q)) ≡ true
   pub way : Settles s stop_distance (plus q (at q)) most_evaluations
   pub angles : Close 2 way.end.point q
-
--- A Bessel point inside its margin goes back to a point with room for a fix.
-pub comes_back : {s : Source} {at : Point → Correction} → SteadyAngles s at stop_at_one
-    → (q : Point) → Room s.inside point_margin q → ReturnsNear s at q
-comes_back {s} {at} a q room =
-    let S = a.corrections in
-    let i = room_itself q room in
-    let p = plus q (at q) in
-    let around : Room s.inside fix_margin p = room_around (omega arith) (back_near S q i) room in
-    let v = goes_out a p around in
-    record { in_bounds = room_itself p around; way = v; angles = point_returns S v.solution (itself s q (at q) i (S.answered q i)) }

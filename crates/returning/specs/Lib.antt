@@ -8,13 +8,9 @@ pub mod Angles
 pub mod Trips
 pub mod GridLines
 pub mod Sides
-pub mod Refined
 pub mod Nearest
-pub mod Border
 pub mod Crossing
 pub mod Passing
 pub mod Nested
 pub mod Edge
 pub mod Unbounded
-pub mod Anywhere
-pub mod Return

@@ -1,2 +1,2 @@
-// The return promise, proved over the rules for every image: all in specs/, no function.
+// The return promise, proved over the rules for every image: the definitions in specs/, the theorems in proofs/, no function.
 #![tactic(auto)]

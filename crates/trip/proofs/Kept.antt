@@ -16,7 +16,7 @@ use Rattle.rules.specs.Check.{grid_check}
 use Rattle.rules.specs.Ways.{Accepted, way_out, way_back}
 use Rattle.rules.specs.Promise.{point_of, Returns, OutAndBack, ReturnsAnywhere, OutAndBackAnywhere, ReturnPromise}
 use Rattle.rules.specs.Trip.{BothWays, trip, out_then_back, taken_back, trip_of, Keeps, KeepsWhere, KeepsAnywhere, KeepsUnbounded}
-use Rattle.returning.specs.Return.{promise}
+use Rattle.returning.proofs.Return.{promise}
 
 -- The promise of the image. It has one layout.
 promised : (b : List ℕ) (l : Layout) (f : Findings) → opening b ≡ values l → grid_check b ≡ values f → ReturnPromise b l

@@ -17,7 +17,8 @@ use Rattle.rules.proofs.Largest.{every_more, every_missed}
 use Rattle.rules.proofs.Nesting.{aligned, at_line}
 use Rattle.steps.specs.Walk.{run_value}
 use Rattle.steps.proofs.Readings.{value_narrow}
-use Rattle.returning.specs.Sides.{node_agrees, side_agrees, node_most}
+use Rattle.returning.specs.Sides.{node_agrees, side_agrees}
+use Rattle.returning.proofs.Sides.{node_most}
 use Rattle.border.proofs.nodes_agree.Statement.{statement}
 use Rattle.border.proofs.nodes_agree.Tie as tie
 

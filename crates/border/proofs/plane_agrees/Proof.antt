@@ -10,7 +10,8 @@ use Rattle.rules.specs.Image.{plane}
 use Rattle.rules.specs.Limits.{GeometryPasses}
 use Rattle.rules.specs.Dense.{axis_aligned, question20}
 use Rattle.rules.specs.Check.{rows_agree, columns_agree, border_agrees}
-use Rattle.returning.specs.Sides.{sides_agree, rows_agree_lem, columns_agree_lem}
+use Rattle.returning.specs.Sides.{sides_agree}
+use Rattle.returning.proofs.Sides.{rows_agree_lem, columns_agree_lem}
 use Rattle.border.specs.Lines.{rows_of, columns_of, lines_agree}
 use Rattle.border.proofs.PlaneLines.{row_value, column_value, rows_inside, columns_inside}
 use borrow.Author.Rules.{rules}

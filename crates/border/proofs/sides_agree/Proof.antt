@@ -6,7 +6,8 @@ use Rattle.integers.specs.Booleans.{and_next, and_stop}
 use Rattle.integers.specs.Machine.{reads_back, told}
 use Rattle.rules.specs.Image.{far_bound}
 use Rattle.rules.proofs.Nesting.{Aligned, aligned}
-use Rattle.returning.specs.Sides.{side_agrees, line_of, line_below}
+use Rattle.returning.specs.Sides.{side_agrees, line_of}
+use Rattle.returning.proofs.Sides.{line_below}
 use Rattle.border.specs.Lines.{line_value}
 use borrow.Author.Rules.{rules}
 use Rattle.border.proofs.sides_agree.Statement.{statement}

@@ -12,9 +12,11 @@ use Rattle.rules.specs.Lookup.{on_axis}
 use Rattle.rules.specs.Dense.{node_angle}
 use Rattle.rules.proofs.Cells.{from_start}
 use Rattle.rules.proofs.Nesting.{at_node, node_offset, at_line, Aligned, in_coarse, coarse_offset}
-use Rattle.returning.specs.Line.{weighted_pair, line, line_near, cell_and_part}
-use Rattle.returning.specs.GridLines.{line_at, line_times}
-use Rattle.returning.specs.Sides.{line_of, side_agrees, side_near}
+use Rattle.returning.specs.Line.{weighted_pair, line}
+use Rattle.returning.proofs.Line.{line_near, cell_and_part}
+use Rattle.returning.proofs.GridLines.{line_at, line_times}
+use Rattle.returning.specs.Sides.{line_of, side_agrees}
+use Rattle.returning.proofs.Sides.{side_near}
 
 -- A weighted pair as a difference form.
 abbrev pair : (a b : ℤ) (s u : ℕ) → Difference (a *ℤ pos s +ℤ b *ℤ pos u)

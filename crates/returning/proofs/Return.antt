@@ -18,13 +18,16 @@ use Rattle.rules.specs.Promise.{Margins, OutAndBackAnywhere, ReturnPromise, Prom
 use Rattle.rules.proofs.Opening.{opened}
 use Rattle.rules.proofs.Answers.{followed}
 use Rattle.rules.proofs.Cells.{point_within}
-use Rattle.returning.specs.Angles.{stop_at_one}
-use Rattle.returning.specs.Trips.{SteadySource, Rooms, Converts, fixes, others, points}
-use Rattle.returning.specs.Crossing.{stop_at_three}
-use Rattle.returning.specs.Passing.{Passes, passes, heights, angles, room}
-use Rattle.returning.specs.Nested.{nested_corrections, nested_angles}
-use Rattle.returning.specs.Unbounded.{unbounded_angles, unbounded_heights}
-use Rattle.returning.specs.Anywhere.{anywhere}
+use Rattle.returning.proofs.Angles.{stop_at_one}
+use Rattle.returning.specs.Trips.{SteadySource, Rooms, Converts}
+use Rattle.returning.proofs.Trips.{fixes, others, points}
+use Rattle.returning.proofs.Crossing.{stop_at_three}
+use Rattle.returning.specs.Passing.{Passes}
+use Rattle.returning.proofs.Passing.{passes, heights, angles, room}
+use Rattle.returning.specs.Nested.{nested_corrections}
+use Rattle.returning.proofs.Nested.{nested_angles}
+use Rattle.returning.proofs.Unbounded.{unbounded_angles, unbounded_heights}
+use Rattle.returning.proofs.Anywhere.{anywhere}
 
 module _ {size : ℕ} (b : List ℕ) (l : Layout) (o : Open size l) (c : Passes (grid_of b l)) (same : Converts b (source_of (grid_of b l))) where
   abbrev grid : Grid

@@ -17,13 +17,17 @@ use Rattle.rules.specs.Lookup.{Height, some, none, inside, quasi_geoid_at}
 use Rattle.rules.specs.Ways.{Source, unbounded_source, question7, plus, position, Accepted, answer_at}
 use Rattle.rules.specs.Promise.{OutAndBackAnywhere}
 use Rattle.rules.proofs.Limits.{fix_within}
-use Rattle.returning.specs.Points.{close_within}
-use Rattle.returning.specs.Iteration.{Solution, solved}
-use Rattle.returning.specs.Angles.{stop_at_one, SteadyAngles, Settles, goes_out, fix_returns}
-use Rattle.returning.specs.Trips.{back_values, out_values, height_goes_back, Converts}
+use Rattle.returning.proofs.Points.{close_within}
+use Rattle.returning.specs.Iteration.{Solution}
+use Rattle.returning.proofs.Iteration.{solved}
+use Rattle.returning.specs.Angles.{SteadyAngles, Settles}
+use Rattle.returning.proofs.Angles.{stop_at_one, goes_out, fix_returns}
+use Rattle.returning.specs.Trips.{Converts}
+use Rattle.returning.proofs.Trips.{back_values, out_values, height_goes_back}
 use Rattle.returning.specs.Passing.{Passes}
-use Rattle.returning.specs.Edge.{zero_at_limit}
-use Rattle.returning.specs.Unbounded.{zero_outside, unbounded_angles, unbounded_heights, no_height, latitudes_zero, longitudes_zero}
+use Rattle.returning.proofs.Edge.{zero_at_limit}
+use Rattle.returning.specs.Unbounded.{zero_outside}
+use Rattle.returning.proofs.Unbounded.{unbounded_angles, unbounded_heights, no_height, latitudes_zero, longitudes_zero}
 
 -- One angle x of an answer, which with the correction c at an angle y is the fix's, z: it is within the limit that z is within, where the
 -- correction is zero at that limit and past it.

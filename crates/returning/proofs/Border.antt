@@ -15,10 +15,13 @@ use Rattle.rules.specs.Dense.{question20}
 use Rattle.rules.specs.Check.{rows_agree, border_agrees}
 use Rattle.rules.proofs.Cells.{on_latitude, on_longitude}
 use Rattle.rules.proofs.Nesting.{AtNode, at_line, Aligned, latitude_aligned, longitude_aligned}
-use Rattle.returning.specs.GridLines.{Along, along_row_lem, along_column, value_along}
-use Rattle.returning.specs.Sides.{line_of, side_agrees, sides_agree, rows_agree_lem, columns_agree_lem}
-use Rattle.returning.specs.Refined.{side_values}
-use Rattle.returning.specs.Nearest.{Bound, OnBorder, bound_node}
+use Rattle.returning.specs.GridLines.{Along}
+use Rattle.returning.proofs.GridLines.{along_row_lem, along_column, value_along}
+use Rattle.returning.specs.Sides.{line_of, side_agrees, sides_agree}
+use Rattle.returning.proofs.Sides.{rows_agree_lem, columns_agree_lem}
+use Rattle.returning.proofs.Refined.{side_values}
+use Rattle.returning.specs.Nearest.{Bound, OnBorder}
+use Rattle.returning.proofs.Nearest.{bound_node}
 
 -- A side of the border, at the angle z of the axes across it, a and b: a grid line of both, along which the nodes agree.
 record Side (a c d : Axis) (h k : ℕ → ℕ → ℤ) (z : ℤ) (node : ℕ) : Type 0 where

@@ -1,0 +1,19 @@
+-- The theorems of the return promise, in the order of specs/, whose definitions they speak of; the promise itself is in Return.
+pub mod Line
+pub mod Points
+pub mod Interpolation
+pub mod Iteration
+pub mod Angles
+pub mod Trips
+pub mod GridLines
+pub mod Sides
+pub mod Refined
+pub mod Nearest
+pub mod Border
+pub mod Crossing
+pub mod Passing
+pub mod Nested
+pub mod Edge
+pub mod Unbounded
+pub mod Anywhere
+pub mod Return
