@@ -5,16 +5,16 @@ use Rattle.std.specs.Prelude.{ℕ, suc, ◌≤◌, ◌<◌, ◌^◌}
 use Rattle.std.proofs.Common.{arith}
 use Rattle.rules.specs.declared.Point.{Point}
 use Rattle.rules.specs.declared.Correction.{Correction}
-use Rattle.rules.specs.Units.{correction_limit, fix_margin, point_margin, stop_distance, most_evaluations}
+use Rattle.rules.specs.Units.{correction_limit, fix_margin, stop_distance, most_evaluations}
 use Rattle.rules.specs.Ways.{Source, plus}
 use Rattle.rules.proofs.Evaluations.{counted}
 use Rattle.returning.specs.Points.{Close, Room}
 use Rattle.returning.proofs.Points.{close_self, close_mono, room_itself, room_around}
 use Rattle.returning.specs.Interpolation.{hundredth}
 use Rattle.returning.specs.Iteration.{Solution, SteadyCorrections}
-use Rattle.returning.proofs.Iteration.{sound, itself}
-use Rattle.returning.proofs.Iteration.{solution_near, back_near, back_within, apart, settles}
-use Rattle.returning.specs.Angles.{ReturnsNear, Settles, SteadyAngles, StopRule}
+use Rattle.returning.proofs.Iteration.{sound}
+use Rattle.returning.proofs.Iteration.{solution_near, back_within, apart, settles}
+use Rattle.returning.specs.Angles.{Settles, SteadyAngles, StopRule}
 
 -- Without a dense grid: 1 nd, and a change of one in a hundred, rounded up. A step of at most 100 ^ (k + 1) is followed by one of at most
 -- 100 ^ k, and a fix returns within 1 nd.
@@ -69,14 +69,3 @@ module _ {s : Source} {at : Point → Correction} {M : ℕ} (S : SteadyCorrectio
   -- A Bessel point returns within 2 nd.
   pub point_returns : {p q q' : Point} → Solution s stop_distance p q → Solution s 0 p q' → Close 2 q q'
   point_returns {p} v w = apart S (λ D. omega arith) v w (close_self 0 p)
-
--- A Bessel point inside its margin goes back to a point with room for a fix.
-pub comes_back : {s : Source} {at : Point → Correction} → SteadyAngles s at stop_at_one
-    → (q : Point) → Room s.inside point_margin q → ReturnsNear s at q
-comes_back {s} {at} a q room =
-    let S = a.corrections in
-    let i = room_itself q room in
-    let p = plus q (at q) in
-    let around : Room s.inside fix_margin p = room_around (omega arith) (back_near S q i) room in
-    let v = goes_out a p around in
-    record { in_bounds = room_itself p around; way = v; angles = point_returns S v.solution (itself s q (at q) i (S.answered q i)) }

@@ -1,11 +1,8 @@
 -- Kind 2's trips from anywhere: every fix within question 7's limits goes out and back, without a margin. Its answer stays within these
 -- limits, because on a bound at 90 or 180 degrees, and past it, the correction is zero.
-use Rattle.std.specs.Prelude.{Bool, true, false, List, ◌≡◌, refl, ℕ, ◌+◌, ◌≤◌, pos, nat_abs, ◌+ℤ◌, ◌-ℤ◌}
+use Rattle.std.specs.Prelude.{Bool, true, false, List, ◌≡◌, refl, ℕ, ◌≤◌, pos, nat_abs, ◌+ℤ◌, ◌-ℤ◌}
 use Rattle.std.proofs.Common.{inl, inr, ap, ◌∙◌, arith}
-use Rattle.std.proofs.Math.Decide.{dec_le}
 use Rattle.std.proofs.Math.IntN.{ℤ, -ℤ-+ℤ_cancel}
-use Rattle.integers.specs.Difference.{up, down, order, var}
-use Rattle.integers.specs.Distance.{Near, size, abs_is}
 use Rattle.rules.specs.declared.Layout.{Layout}
 use Rattle.rules.specs.declared.Point.{Point}
 use Rattle.rules.specs.declared.Way.TheVariants as way
@@ -28,16 +25,7 @@ use Rattle.returning.specs.Passing.{Passes}
 use Rattle.returning.proofs.Edge.{zero_at_limit}
 use Rattle.returning.specs.Unbounded.{zero_outside}
 use Rattle.returning.proofs.Unbounded.{unbounded_angles, unbounded_heights, no_height, latitudes_zero, longitudes_zero}
-
--- One angle x of an answer, which with the correction c at an angle y is the fix's, z: it is within the limit that z is within, where the
--- correction is zero at that limit and past it.
-angle_stays : (limit : ℕ) (x y z c : ℤ) → nat_abs z ≤ limit → Near stop_distance x y → up x + up c + down z ≡ up z + down x + down c
-    → (limit ≤ nat_abs y → c ≡ pos 0) → nat_abs x ≤ limit
-angle_stays limit x y z c l n e zero = by (dec_le limit (nat_abs y))
-  where
-    by : Dec (limit ≤ nat_abs y) → nat_abs x ≤ limit
-    by (yes k) = omega (arith, order, zero k, abs_is (var x), size z)
-    by (no k) = omega (arith, abs_is (var x), size y)
+use Rattle.returning.proofs.Stays.{angle_stays}
 
 -- An answer with the number k.
 abbrev accepted : Point → ℤ → (n k : ℕ) → Accepted

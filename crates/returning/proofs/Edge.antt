@@ -1,6 +1,6 @@
 -- The edge of a grid whose border nodes are all zero (question 22): its values are zero on the border, so that a value which is taken as
 -- zero outside is steady everywhere, and is zero where the bounds meet question 7's limits.
-use Rattle.std.specs.Prelude.{Bool, true, false, ◌&&◌, ◌⊎◌, ◌≡◌, refl, ℕ, ◌-◌, ◌≤◌, ℤ, pos, negsuc, nat_abs}
+use Rattle.std.specs.Prelude.{Bool, true, false, ◌&&◌, ◌⊎◌, ◌≡◌, refl, ℕ, ◌-◌, ◌≤◌, ℤ, pos, nat_abs}
 use Rattle.std.proofs.Common.{inl, inr, ⊎_elim, arith, leb-true}
 use Rattle.integers.specs.Difference.{order}
 use Rattle.integers.specs.Distance.{size}
@@ -10,12 +10,12 @@ use Rattle.rules.specs.declared.Axis.{Axis}
 use Rattle.rules.specs.declared.Geometry.{Geometry}
 use Rattle.rules.specs.declared.Point.{Point}
 use Rattle.rules.specs.Units.{within, latitude_limit, longitude_limit}
-use Rattle.rules.specs.Image.{far_bound, rows, columns}
-use Rattle.rules.specs.Limits.{Sized, AxisPasses, GeometryPasses}
+use Rattle.rules.specs.Image.{rows, columns}
+use Rattle.rules.specs.Limits.{Sized, GeometryPasses}
 use Rattle.rules.specs.Bilinear.{part_for, value_at}
 use Rattle.rules.specs.Lookup.{on_axis, inside}
 use Rattle.rules.specs.Check.{both_zero, border_zero}
-use Rattle.rules.proofs.Cells.{from_start, to_far, on_latitude, on_longitude}
+use Rattle.rules.proofs.Cells.{on_latitude, on_longitude}
 use Rattle.rules.proofs.Largest.{every_at}
 use Rattle.returning.specs.Points.{SteadyValue}
 use Rattle.returning.specs.Line.{line}
@@ -23,12 +23,13 @@ use Rattle.returning.proofs.Line.{line_near, pair_parts}
 use Rattle.returning.specs.Interpolation.{hundredth}
 use Rattle.returning.specs.GridLines.{Along}
 use Rattle.returning.proofs.GridLines.{along_row_lem, along_column, value_along}
-use Rattle.returning.specs.Nearest.{Bound, at_start, at_far, OnBorder}
+use Rattle.returning.specs.Nearest.{OnBorder}
 use Rattle.returning.proofs.Nearest.{bound_node}
 use Rattle.returning.proofs.Crossing.{steady_across}
 use Rattle.returning.specs.Passing.{NodesPass}
 use Rattle.returning.proofs.Passing.{steady_value}
 use Rattle.returning.specs.Edge.{AllZero, value_or_zero}
+use Rattle.returning.proofs.AtLimit.{at_limit}
 
 both_zero_lem : (n : ℕ) (h k : ℕ → ℤ) → both_zero n h k ≡ true → AllZero n h × AllZero n k
 unfolding both_zero
@@ -44,11 +45,6 @@ on_line_lem {c} {h} {z} o zero i x =
     let n = line_near o h (λ i. pos 0) 0 (λ i l. omega (arith, zero i l, size (h i))) z i in
     let e : line c h z ≡ pos 0 = omega (arith, order, n, pair_parts (pos 0) (pos 0) (c.spacing - part_for c z) (part_for c z)) in
     rw (value_along o.spacing_least x, e) (round_zero c.spacing o.spacing_least)
-
--- An angle on an axis that is as far from zero as its bounds may be is a bound.
-at_limit : {limit : ℕ} {a : Axis} → AxisPasses limit a → (z : ℤ) → on_axis a z ≡ true → limit ≤ nat_abs z → Bound a z
-at_limit {a} o (pos n) i l = at_far (omega (arith, order, to_far a (pos n) i, o.far_within, size (far_bound a)))
-at_limit {a} o (negsuc n) i l = at_start (omega (arith, order, from_start a (negsuc n) i, o.start_within, size a.start))
 
 zero_steady : {M : ℕ} → SteadyValue (λ p. true) (λ D. 0) M (λ p. pos 0)
 zero_steady = record { limit = λ q i. omega arith; change = λ q r D i j h. omega arith }

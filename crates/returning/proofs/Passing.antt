@@ -1,32 +1,29 @@
 -- A grid that passes the check is a steady source: its nodes are all within question 9's limits, so every lookup in the bounds is answered,
 -- and its steps are within question 12's, so every value changes slowly. The corrections with a dense grid are in Nested.antt, the answers
 -- at any point in Unbounded.antt.
-use Rattle.std.specs.Prelude.{Bool, List, ◌≡◌, ℕ, ◌+◌, ◌-◌, ◌≤◌, ◌<◌, ℤ, pos, ◌+ℤ◌, ◌-ℤ◌, ◌≤ℤ◌}
+use Rattle.std.specs.Prelude.{Bool, List, ◌≡◌, ℕ, ◌+◌, ◌-◌, ◌≤◌, ◌<◌, ℤ, ◌-ℤ◌}
 use Rattle.std.proofs.Math.Bool.{true, false}
 use Rattle.std.proofs.Math.Path.{refl}
 use Rattle.std.proofs.Common.{subst, le_trans, arith, leb-true}
 use Rattle.std.proofs.Math.IntN.{nat_abs}
-use Rattle.integers.specs.Difference.{order, var, lit, ◌⊕◌, ◌⊖◌}
 use Rattle.integers.specs.Distance.{Near, near_sym, abs_near}
 use Rattle.integers.specs.Booleans.{and_left, and_right, and_both, all_three}
-use Rattle.rules.specs.declared.Axis.{Axis}
 use Rattle.rules.specs.declared.Geometry.{Geometry}
 use Rattle.rules.specs.declared.Layout.{Layout}
 use Rattle.rules.specs.declared.Point.{Point}
 use Rattle.rules.specs.declared.Findings.{Findings}
 use Rattle.rules.specs.Units.{correction_limit, quasi_geoid_limit}
 use Rattle.rules.specs.Answers.{values}
-use Rattle.rules.specs.Image.{Grid, grid_of, rows, columns, far_bound}
+use Rattle.rules.specs.Image.{Grid, grid_of, rows, columns}
 use Rattle.rules.specs.Limits.{GeometryPasses, Open}
 use Rattle.rules.specs.Bilinear.{corners_for, value_at}
-use Rattle.rules.specs.Lookup.{some, on_axis, inside, square_passes, question9, corrections_pass, heights_pass, corrections_at, quasi_geoid_at}
+use Rattle.rules.specs.Lookup.{some, inside, square_passes, question9, corrections_pass, heights_pass, corrections_at, quasi_geoid_at}
 use Rattle.rules.specs.Lookup.{correction_lookup, height_lookup, correction_grid_lookup, height_grid_lookup}
 use Rattle.rules.specs.Ways.{bounded_source}
 use Rattle.rules.specs.Check.{largest, all_within, all_pass, step_north, step_east, steps_of, slope_passes, question12, findings_of}
 use Rattle.rules.specs.Check.{dense_passes, dense_slopes_pass, question21, question22, where_nested, where_unbounded, check}
 use Rattle.rules.specs.Promise.{Margin}
 use Rattle.rules.proofs.Answers.{asked}
-use Rattle.rules.proofs.Cells.{on_axis_lem}
 use Rattle.rules.proofs.Corners.{cell_within, square_passes_lem}
 use Rattle.rules.proofs.Largest.{largest_at}
 use Rattle.rules.proofs.Slopes.{all_within_lem}
@@ -37,6 +34,7 @@ use Rattle.returning.specs.Angles.{SteadyAngles}
 use Rattle.returning.proofs.Angles.{stop_at_one}
 use Rattle.returning.specs.Trips.{SteadyHeights}
 use Rattle.returning.specs.Passing.{BothPass, NodesPass, Passes}
+use Rattle.returning.proofs.Margins.{axis_room}
 
 -- The largest over rows and columns bounds each.
 largest_of : (m n : ℕ) (f : ℕ → ℕ → ℕ) (i j : ℕ) → i < m → j < n → f i j ≤ largest m (λ i. largest n (λ j. f i j))
@@ -170,9 +168,6 @@ module _ {size : ℕ} (b : List ℕ) (l : Layout) (o : Open size l) (c : Passes 
       }
 
 -- ---- every point within d of one that is at least d inside is in the bounds
-axis_room : (a : Axis) (d : ℕ) (z w : ℤ) → (a.start +ℤ pos d) ≤ℤ z → z ≤ℤ (far_bound a -ℤ pos d) → Near d w z → on_axis a w ≡ true
-axis_room a d z w h k n =
-    on_axis_lem a w (omega (arith, order, var a.start ⊕ lit d)) (omega (arith, order, var (far_bound a) ⊖ lit d))
 
 pub room : (g : Geometry) (d : ℕ) (p : Point) → Margin d g p → Room (inside g) d p
 unfolding inside

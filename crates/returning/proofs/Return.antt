@@ -20,7 +20,9 @@ use Rattle.rules.proofs.Answers.{followed}
 use Rattle.rules.proofs.Cells.{point_within}
 use Rattle.returning.proofs.Angles.{stop_at_one}
 use Rattle.returning.specs.Trips.{SteadySource, Rooms, Converts}
-use Rattle.returning.proofs.Trips.{fixes, others, points}
+use Rattle.returning.proofs.Trips.{fixes}
+use Rattle.returning.proofs.PointTrip.{others}
+use Rattle.returning.proofs.PointTrips.{points}
 use Rattle.returning.proofs.Crossing.{stop_at_three}
 use Rattle.returning.specs.Passing.{Passes}
 use Rattle.returning.proofs.Passing.{passes, heights, angles, room}

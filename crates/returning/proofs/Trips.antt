@@ -4,30 +4,28 @@ use Rattle.std.specs.Prelude.{Bool, true, false, List, ◌≡◌, ℕ, ◌≤◌
 use Rattle.std.proofs.Common.{sym, ◌∙◌, arith, le-leb}
 use Rattle.std.proofs.Math.Path.{ap}
 use Rattle.std.proofs.Math.IntN.{ℤ, -ℤ-+ℤ_cancel}
-use Rattle.integers.specs.Difference.{var, ◌⊕◌, ◌⊖◌}
-use Rattle.integers.specs.Distance.{Near, size, abs_add, abs_is}
+use Rattle.integers.specs.Difference.{var, ◌⊖◌}
+use Rattle.integers.specs.Distance.{size, abs_is}
 use Rattle.integers.specs.Booleans.{and_both}
 use Rattle.rules.specs.declared.Layout.{Layout}
 use Rattle.rules.specs.declared.Point.{Point}
 use Rattle.rules.specs.declared.Correction.{Correction}
 use Rattle.rules.specs.declared.Way.TheVariants as way
-use Rattle.rules.specs.Units.{quasi_geoid_limit, out_height_limit, back_height_limit, stop_distance, most_evaluations}
-use Rattle.rules.specs.Units.{fix_margin, point_margin, point_height_limit}
+use Rattle.rules.specs.Units.{quasi_geoid_limit, out_height_limit, back_height_limit, most_evaluations}
+use Rattle.rules.specs.Units.{fix_margin}
 use Rattle.rules.specs.Answers.{values}
 use Rattle.rules.specs.Limits.{PointWithin}
 use Rattle.rules.specs.Lookup.{Height, some}
 use Rattle.rules.specs.Ways.{Source, question7, plus, position, Accepted, answer_at, back, out, iterate, convert_over}
-use Rattle.rules.specs.Promise.{point_of, return_distance, OutAndBack, BackAndOut}
+use Rattle.rules.specs.Promise.{point_of, return_distance, OutAndBack}
 use Rattle.rules.proofs.Accepted.{answer_point}
 use Rattle.rules.proofs.Answers.{asked, followed}
 use Rattle.returning.specs.Points.{Close}
-use Rattle.returning.proofs.Points.{close_self, close_within, within_close, close_mono, room_itself}
-use Rattle.returning.specs.Interpolation.{hundredth}
+use Rattle.returning.proofs.Points.{close_self, close_within, close_mono, room_itself}
 use Rattle.returning.specs.Iteration.{Solution}
-use Rattle.returning.proofs.Iteration.{itself, back_near}
-use Rattle.returning.specs.Angles.{StopRule, SteadyAngles, Settles, ReturnsNear}
-use Rattle.returning.proofs.Angles.{stop_at_one}
-use Rattle.returning.proofs.Angles.{goes_out, out_near, fix_returns, others_near, comes_back}
+use Rattle.returning.proofs.Iteration.{itself}
+use Rattle.returning.specs.Angles.{StopRule, SteadyAngles, Settles}
+use Rattle.returning.proofs.Angles.{goes_out, out_near, fix_returns}
 use Rattle.returning.specs.Trips.{Converts, OthersNear, Rooms, SteadySource}
 
 -- What is answered going back solves the point that it goes back to, whatever the source.
@@ -42,10 +40,6 @@ back_solves s q H r h =
     let e : answer_at (plus q c.0) (λ z. H +ℤ z) 1 z.0 ≡ r = cc z.2 in
     let f : plus q c.0 ≡ point_of r.position = sym (answer_point _ _ 1 z.0) ∙ ap (λ (r : Accepted). point_of r.position) e in
     rw f at (itself s q c.0 b.0 c.1)
-
--- A Bessel point with quasi-geoid height z that returns to one with w, at most 2 nd away, has its height within 1 unit.
-pub height_returns : (H z w : ℤ) → Near (hundredth 2) w z → nat_abs (H +ℤ z -ℤ w -ℤ H) ≤ 1
-height_returns H z w h = omega (arith, abs_is (var H ⊕ var z ⊖ var w ⊖ var H))
 
 -- The NAP height of a fix in the limits, at a Bessel point with quasi-geoid height z, is in the limits going back.
 pub height_goes_back : (h z : ℤ) → nat_abs h ≤ out_height_limit → nat_abs z ≤ quasi_geoid_limit → nat_abs (h -ℤ z) ≤ back_height_limit
@@ -114,39 +108,3 @@ module _ {s : Source} {at : Point → Correction} {rule : StopRule} {heightInsid
         let near : Close fix_margin q p = close_mono (omega arith) (out_near t.angles v.solution) in
         fix_trip p h v (room_itself p rooms.corrections)
         (rooms.limits p (close_self _ p)) (rooms.limits q near) (rooms.heights q near) m
-
--- ---- without a dense grid
-module _ {s : Source} {at : Point → Correction} {heightInside : Point → Bool} {quasiGeoid : Point → ℤ}
-    (t : SteadySource s at stop_at_one heightInside quasiGeoid) (b : List ℕ) (same : Converts b s)
-  where
-    pub others : (p q : Point) → Solution s stop_distance p q → OthersNear b p q
-    others p q w q' H r a c =
-        let v = back_solves s q' H r (rw (same way.Back q' H) at a) in
-        close_within (others_near t.angles.corrections w v (within_close c))
-
-    -- A Bessel point q whose way back and out settles near it.
-    pub point_trip : (q : Point) (H : ℤ) (v : ReturnsNear s at q)
-        → s.inside q ≡ true → PointWithin q → PointWithin (plus q (at q))
-        → heightInside q ≡ true → heightInside v.way.end.point ≡ true → nat_abs H ≤ point_height_limit → BackAndOut b q H
-    point_trip q H v i x y j k l =
-        let p = plus q (at q) in
-        let r = v.way.end.point in
-        let z = quasiGeoid q in
-        let h = H +ℤ z in
-        let m : nat_abs h ≤ out_height_limit = omega (arith, t.heights.value.limit q j, abs_add H z) in
-        record {
-          etrs89 = position p h 1;
-          returned = position r (h -ℤ quasiGeoid r) v.way.end.count;
-          answered = same way.Back q H ∙ back_values t.angles q H (some z) i x (t.heights.answered q j) (omega arith);
-          out_again = same way.Out p h ∙ out_values t.angles v.way h _ v.in_bounds y (t.heights.answered r k) m;
-          angles = close_within v.angles;
-          heights = height_returns H z (quasiGeoid r) (t.heights.value.change r q 2 k j v.angles);
-        }
-
-    pub points : (q : Point) (H : ℤ) → Rooms s heightInside point_margin q → nat_abs H ≤ point_height_limit → BackAndOut b q H
-    points q H rooms l =
-        let v = comes_back t.angles q rooms.corrections in
-        let i = room_itself q rooms.corrections in
-        let near : Close point_margin (plus q (at q)) q = close_mono (omega arith) (back_near t.angles.corrections q i) in
-        let k = rooms.heights v.way.end.point (close_mono (omega arith) v.angles) in
-        point_trip q H v i (rooms.limits q (close_self _ q)) (rooms.limits _ near) (room_itself q rooms.heights) k l
