@@ -74,6 +74,7 @@ fn read_digits(text: &[u8], from: usize, most: u64) -> Digits
 }
 
 // The number n with one more digit behind it.
+#[tactic(auto, unfolding(crate::specs::Text::with_digit))]
 fn with_digit(n: u64, byte: u8, most: u64) -> Digits
     requires { most ≤ 9223372036854775808 }
     ensures { result ≡ with_digit most n byte }

@@ -4,41 +4,38 @@
 
 use rules::{Checked, Findings, Steps};
 use slopes::grid_check;
+use std::io;
 use streams::{print_field, print_refusal, read_image};
 
-fn main() {
-    let mut image = io::large_buffer();
-    let input = read_image(&mut image);
+fn main(rt: HostRuntime) -> io::Result<()> {
+    let mut image = [0u8; 65536];
+    let input = read_image(&mut rt.reader(), &mut image);
     if input.too_long {
-        io::write_all(1, b"too long\n");
-        return;
+        return println!(rt; "too long");
     }
     let size = input.size;
-    report(&image[..size]);
+    report(&rt, &image[..size])
 }
 
 // One line: `passed` and A and B of the three values, or `refused` and the number.
-fn report(image: &[u8]) {
+fn report(rt: &impl Print, image: &[u8]) -> io::Result<()> {
     match grid_check(image) {
         Checked::Passed(f) => {
-            io::write_all(1, b"passed");
-            print_findings(f);
-            io::write_all(1, b"\n");
+            print!(rt; "passed")?;
+            print_findings(rt, f)?;
+            println!(rt)
         }
-        Checked::Refused(r) => print_refusal(r),
+        Checked::Refused(r) => print_refusal(rt, r),
     }
 }
 
-fn print_findings(f: Findings) {
-    let latitude = f.latitude;
-    let longitude = f.longitude;
-    let height = f.height;
-    print_steps(latitude);
-    print_steps(longitude);
-    print_steps(height);
+fn print_findings(rt: &impl Print, f: Findings) -> io::Result<()> {
+    print_steps(rt, f.latitude)?;
+    print_steps(rt, f.longitude)?;
+    print_steps(rt, f.height)
 }
 
-fn print_steps(s: Steps) {
-    print_field(s.northward);
-    print_field(s.eastward);
+fn print_steps(rt: &impl Print, s: Steps) -> io::Result<()> {
+    print_field(rt, s.northward)?;
+    print_field(rt, s.eastward)
 }

@@ -1,11 +1,13 @@
 // What the programs read and print alike: one image from standard input, and a refusal with its number.
 #![tactic(auto)]
 
-ghost use Rattle.io.specs.Counts.{IsPrefixLen};
+ghost use Rattle.std.specs.Counts.{IsPrefixLen};
 
 use numbers::magnitude;
 use refusals::refusal_number;
 use rules::Refusal;
+use std::io;
+use std::io::Read;
 
 // What was read from standard input: how many bytes, and whether more than these are there.
 #[derive(Drop)]
@@ -14,30 +16,43 @@ pub struct Input {
     pub too_long: bool,
 }
 
-// Reads an image of at most 65,536 bytes from standard input. A read that fails counts as the input's end.
-pub fn read_image(image: &mut [u8; 65536]) -> Input
+// Reads an image of at most 65,536 bytes from standard input, `stdin`. A read that fails counts as the input's end.
+pub fn read_image<R: Read>(stdin: &mut R, image: &mut [u8; 65536]) -> Input
     ensures { IsPrefixLen result.size image.new }
 {
-    let size = io::read_full(0, image);
-    let too_long = has_more();
+    let size = read_full(stdin, image);
+    let too_long = has_more(stdin);
     Input { size, too_long }
 }
 
 // Is there a byte left on standard input?
-fn has_more() -> bool {
+fn has_more<R: Read>(stdin: &mut R) -> bool {
     let mut next = [0u8; 1];
-    io::read_full(0, &mut next) != 0
+    read_full(stdin, &mut next) != 0
+}
+
+// Reads until the buffer is full, the input ends or a read fails: how many bytes stand at its start.
+fn read_full<R: Read>(stdin: &mut R, buffer: &mut [u8]) -> usize
+    ensures { IsPrefixLen result buffer.new }
+{
+    let mut size = 0;
+    while size < buffer.len() {
+        match stdin.read(&mut buffer[size..]) {
+            Ok(0) | Err(_) => break,
+            Ok(n) => size += n,
+        }
+    }
+    size
 }
 
 // Prints a space and a number: one field of a line.
-pub fn print_field(n: u64) {
-    io::write_all(1, b" ");
-    io::print_decimal(1, n);
+pub fn print_field(rt: &impl Print, n: u64) -> io::Result<()> {
+    print!(rt; " {n}")
 }
 
 // Ends a line with `refused` and the refusal's number.
-pub fn print_refusal(r: Refusal) {
-    io::write_all(1, b"refused");
-    print_field(magnitude(refusal_number(r)));
-    io::write_all(1, b"\n");
+pub fn print_refusal(rt: &impl Print, r: Refusal) -> io::Result<()> {
+    print!(rt; "refused")?;
+    print_field(rt, magnitude(refusal_number(r)))?;
+    println!(rt)
 }
