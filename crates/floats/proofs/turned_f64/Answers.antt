@@ -2,22 +2,17 @@
 use mathlib.Core.Path.{◌≡◌, subst}
 use Prim.Native.Nat.{ℕ, ◌-◌}
 use native.Mathlib.Omega.{arith}
-use borrow.Author.Rules.{rules}
 use Rattle.rules.specs.Floats.{binary64}
 use Rattle.floats.specs.Turned.{Turned}
 use Rattle.floats.proofs.Turning.{sign_added, sign_added_lem, sign_taken}
-use Rattle.floats.proofs.turned_f64.Statement.{statement}
-use Rattle.floats.proofs.turned_f64.Tie as tie
+use Rattle.floats.proofs.turned_f64.Goals as goal
 
-returns : tie.Need-returns
-returns c = sign_added_lem binary64 c.before.args.bits
+pub returns-then-bits-lt9223372036854775808 : goal.returns-then-bits-lt9223372036854775808
+returns-then-bits-lt9223372036854775808 c = sign_added_lem binary64 c.args.bits
 
-returns_2 : tie.Need-returns-2
-returns_2 c =
-    let bits = c.before.args.bits in
+pub returns-else-bits-lt9223372036854775808 : goal.returns-else-bits-lt9223372036854775808
+returns-else-bits-lt9223372036854775808 c =
+    let bits = c.args.bits in
     let rest = bits - 9223372036854775808 in
     let e : sign_added binary64 rest ≡ bits = omega arith in
     subst (λ (n : ℕ). Turned binary64 n rest) e (sign_taken binary64 rest)
-
-pub turned_f64_spec : {M : Type 1} → statement M
-turned_f64_spec = tie.close (tie.spec (λ c. search rules) returns returns_2)
