@@ -11,7 +11,8 @@ use lib.IntN.{ℤ, pos, nat_abs, ◌*ℤ◌}
 use lib.Pow.{pow_pos, pow-add, pow_mono}
 use borrow.Author.Tests.{ne_eqb, lt-leb}
 use Rattle.integers.specs.Difference.{neg_up, neg_down}
-use Rattle.integers.specs.Rounding.{round_half_up, round_is}
+use Rattle.integers.specs.Rounding.{round_half_up}
+use Rattle.integers.proofs.Rounding.{round_is}
 use Rattle.rules.specs.declared.FloatFormat.{FloatFormat}
 use Rattle.rules.specs.declared.Scale.{Scale}
 use Rattle.rules.specs.Units.{within}

@@ -1,8 +1,8 @@
 -- Both conversions of document 02's note 8 as one: into kind 3, in planes, or into kind 0, in nodes, each from the other.
-use Rattle.std.specs.Prelude.{Bool, true, false, not, cond, List, ◌++◌, ◌≡◌, refl, ℕ}
+use Rattle.std.specs.Prelude.{Bool, true, false, cond, List, ◌++◌, ℕ}
 use Rattle.rules.specs.declared.Layout.{Layout}
-use Rattle.rules.specs.Answers.{Outcome, values, and_then}
-use Rattle.rules.specs.Planes.{convertible, corrections_in_planes, corrections_in_nodes, rest_with_kind, planes_from_nodes, nodes_from_planes}
+use Rattle.rules.specs.Answers.{Outcome}
+use Rattle.rules.specs.Planes.{corrections_in_planes, corrections_in_nodes, rest_with_kind, planes_from_nodes, nodes_from_planes}
 
 -- The kind in planes, and the kind in nodes.
 abbrev pub kind_in : (in_planes : Bool) → ℕ
@@ -20,9 +20,3 @@ converted_to in_planes b l = corrections_in in_planes b l ++ rest_with_kind (kin
 abbrev pub conversion_to : (in_planes : Bool) → List ℕ → (room : ℕ) → Outcome (List ℕ)
 conversion_to true = planes_from_nodes
 conversion_to false = nodes_from_planes
-
-pub conversion_is : (in_planes : Bool) (b : List ℕ) (room : ℕ)
-    → conversion_to in_planes b room ≡ and_then (convertible (kind_in (not in_planes)) b room) (λ l. values (converted_to in_planes b l))
-unfolding planes_from_nodes nodes_from_planes
-conversion_is true b room = refl
-conversion_is false b room = refl

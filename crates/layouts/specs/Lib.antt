@@ -6,6 +6,5 @@ pub mod SameNodes
 pub mod Bytes
 pub mod Corrections
 pub mod Kinds
-pub mod Converted
 pub mod Conversions
 pub mod Same

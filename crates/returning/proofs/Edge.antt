@@ -4,7 +4,7 @@ use Rattle.std.specs.Prelude.{Bool, true, false, ◌&&◌, ◌⊎◌, ◌≡◌,
 use Rattle.std.proofs.Common.{inl, inr, ⊎_elim, arith, leb-true}
 use Rattle.integers.specs.Difference.{order}
 use Rattle.integers.specs.Distance.{size}
-use Rattle.integers.specs.Rounding.{round_zero}
+use Rattle.integers.proofs.Rounding.{round_zero}
 use Rattle.integers.specs.Booleans.{and_left, and_right}
 use Rattle.rules.specs.declared.Axis.{Axis}
 use Rattle.rules.specs.declared.Geometry.{Geometry}

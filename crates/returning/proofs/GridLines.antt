@@ -5,7 +5,8 @@ use Rattle.std.proofs.Math.Decide.{dec_le}
 use Rattle.std.proofs.Math.Nat.{mul_comm}
 use Rattle.std.proofs.Math.IntN.{pos}
 use Rattle.integers.specs.Difference.{order, var, lit, ◌⊕◌, ◌⊗◌}
-use Rattle.integers.specs.Rounding.{round_half_up, round_times}
+use Rattle.integers.specs.Rounding.{round_half_up}
+use Rattle.integers.proofs.Rounding.{round_times}
 use Rattle.rules.specs.declared.Axis.{Axis}
 use Rattle.rules.specs.declared.Geometry.{Geometry}
 use Rattle.rules.specs.declared.Point.{Point}

@@ -4,7 +4,8 @@ use Rattle.std.specs.Prelude.{true, ◌≡◌, refl, ℕ, ◌+◌, ◌*◌, ◌�
 use Rattle.std.proofs.Common.{ap, mul-le-mul, mul-le-mul_left, mul-le-mul_right, arith}
 use Rattle.integers.specs.Difference.{up, down, order, var, lit, ◌⊕◌, ◌⊗◌}
 use Rattle.integers.specs.Distance.{Near, near_trans, near_mono}
-use Rattle.integers.specs.Rounding.{round_half_up, round_close}
+use Rattle.integers.specs.Rounding.{round_half_up}
+use Rattle.integers.proofs.Rounding.{round_close}
 use Rattle.rules.specs.declared.Geometry.{Geometry}
 use Rattle.rules.specs.declared.Point.{Point}
 use Rattle.rules.specs.Image.{rows, columns}

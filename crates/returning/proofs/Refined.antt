@@ -4,7 +4,8 @@ use Rattle.std.specs.Prelude.{true, ◌≡◌, ℕ, ◌+◌, ◌*◌, ◌-◌, �
 use Rattle.std.proofs.Common.{sym, ap, mul_comm, mul-pos, div-add-mod', mod-lt, lt_of_mul-lt-mul_right, arith}
 use Rattle.integers.specs.Difference.{order, Difference, var, lit, ◌⊕◌, ◌⊗◌}
 use Rattle.integers.specs.Distance.{Near, near_mono}
-use Rattle.integers.specs.Rounding.{round_half_up, round_close, round_times}
+use Rattle.integers.specs.Rounding.{round_half_up}
+use Rattle.integers.proofs.Rounding.{round_close, round_times}
 use Rattle.rules.specs.declared.Axis.{Axis}
 use Rattle.rules.specs.Limits.{Sized}
 use Rattle.rules.specs.Bilinear.{offset, cell_for, part_for}

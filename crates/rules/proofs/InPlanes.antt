@@ -1,6 +1,6 @@
 -- Figures of our own for kind 3 and both conversions, computed from bytes: the same answers as kind 0's, the bytes there and back, and the
 -- order of the refusals.
-use mathlib.Core.List.{List, [], ◌∷◌, ◌++◌}
+use mathlib.Core.List.{List, ◌∷◌, ◌++◌}
 use mathlib.Core.Path.{◌≡◌, refl}
 use Prim.Native.Nat.{ℕ, ◌+◌, ◌*◌}
 use lib.IntN.{ℤ, pos, neg_ℤ}

@@ -8,7 +8,8 @@ use lib.IntN.{ℤ, pos, negsuc, neg_ℤ}
 use borrow.Author.Tests.{le-ltb}
 use Rattle.integers.specs.Difference.{up, down, neg_up, neg_down}
 use Rattle.integers.specs.Machine.{natural-tests}
-use Rattle.integers.specs.Rounding.{Round, round_half_up, round_is}
+use Rattle.integers.specs.Rounding.{Round, round_half_up}
+use Rattle.integers.proofs.Rounding.{round_is}
 use Rattle.rules.specs.SixCases.{Half, below_half, exactly_half, above_half, less_than_half, equal_to_half, test_for_half}
 use Rattle.rules.specs.SixCases.{value_in_case, six_cases, rounded_by_cases}
 

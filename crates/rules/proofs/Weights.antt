@@ -5,7 +5,7 @@ use native.Mathlib.Nat.{le_refl, sub-add_cancel}
 use native.Mathlib.Omega.{arith}
 use lib.IntN.{pos, nat_abs, ◌+ℤ◌, ◌*ℤ◌}
 use Rattle.integers.specs.Distance.{abs_add, abs-mul-≤}
-use Rattle.integers.specs.Rounding.{round_bound}
+use Rattle.integers.proofs.Rounding.{round_bound}
 use Rattle.rules.specs.declared.Square.{Square}
 use Rattle.rules.specs.Limits.{CornersWithin}
 use Rattle.rules.specs.Bilinear.{weighted, bilinear}

@@ -16,7 +16,8 @@ use Rattle.rules.specs.Questions.{opened_of}
 use Rattle.rules.specs.Planes.{convertible, rest_with_kind}
 use Rattle.rules.proofs.Opening.{opened}
 use Rattle.rules.proofs.Lent.{two_parts, second_part_length}
-use Rattle.layouts.specs.Directions.{kind_in, corrections_in, converted_to, conversion_to, conversion_is}
+use Rattle.layouts.specs.Directions.{kind_in, corrections_in, converted_to, conversion_to}
+use Rattle.layouts.proofs.Directions.{conversion_is}
 use Rattle.planes.proofs.Places.{Fits, fits}
 use Rattle.planes.proofs.convert_to.Statement.{statement}
 use Rattle.planes.proofs.convert_to.Tie as tie

@@ -16,9 +16,11 @@ use Rattle.rules.specs.Image.{edition_of, two_grid_trailer_of, height_back_of, c
 use Rattle.rules.specs.Planes.{value_bytes, corrections_in_planes, corrections_in_nodes, rest_with_kind}
 use Rattle.rules.proofs.Buffer.{parts_same}
 use Rattle.layouts.specs.SameNodes.{SameNodes}
-use Rattle.layouts.specs.Bytes.{SameBytes, bytes_from, SameGrids, u32_same, i32_same, trailers_same}
+use Rattle.layouts.specs.Bytes.{SameBytes, SameGrids}
+use Rattle.layouts.proofs.Bytes.{bytes_from, u32_same, i32_same, trailers_same}
 use Rattle.layouts.specs.Directions.{kind_in, corrections_in, converted_to}
-use Rattle.layouts.specs.Corrections.{layout_in, corrections_long, latitude_written, longitude_written, own_corrections}
+use Rattle.layouts.specs.Corrections.{layout_in}
+use Rattle.layouts.proofs.Corrections.{corrections_long, latitude_written, longitude_written, own_corrections}
 use Rattle.layouts.specs.Kinds.{OpenIn}
 
 -- A number of four bytes that is at most 3 has zeros after the first.

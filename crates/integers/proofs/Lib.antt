@@ -1,0 +1,2 @@
+-- Laws of the rounding that specs/Rounding.antt defines.
+pub mod Rounding
