@@ -1,7 +1,9 @@
 // What the programs read and print alike: one image from standard input, and a refusal with its number.
 #![tactic(auto)]
 
+ghost use Rattle.std.specs.Prelude.{Option, List, ℕ, take};
 ghost use Rattle.std.specs.Counts.{IsPrefixLen};
+ghost use Rattle.std.specs.Io.KnownBytes.{Consumes};
 
 use numbers::magnitude;
 use refusals::refusal_number;
@@ -16,9 +18,11 @@ pub struct Input {
     pub too_long: bool,
 }
 
-// Reads an image of at most 65,536 bytes from standard input, `stdin`. A read that fails counts as the input's end.
+// Reads an image of at most 65,536 bytes from standard input, `stdin`. A read that fails counts as the input's end. Of an input whose bytes
+// are known these are the first.
 pub fn read_image<R: Read>(stdin: &mut R, image: &mut [u8; 65536]) -> Input
-    ensures { IsPrefixLen result.size image.new }
+    ensures within { IsPrefixLen result.size image.new }
+    ensures first { (rest : Option (List ℕ)) × Consumes (R.remaining stdin.old) rest (take result.size image.new) }
 {
     let size = read_full(stdin, image);
     let too_long = has_more(stdin);
@@ -33,7 +37,8 @@ fn has_more<R: Read>(stdin: &mut R) -> bool {
 
 // Reads until the buffer is full, the input ends or a read fails: how many bytes stand at its start.
 fn read_full<R: Read>(stdin: &mut R, buffer: &mut [u8]) -> usize
-    ensures { IsPrefixLen result buffer.new }
+    ensures within { IsPrefixLen result buffer.new }
+    ensures first { Consumes (R.remaining stdin.old) (R.remaining stdin.new) (take result buffer.new) }
 {
     let mut size = 0;
     while size < buffer.len() {
