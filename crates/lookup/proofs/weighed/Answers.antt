@@ -5,19 +5,14 @@ use mir.Facts.{to_z-of_z}
 use Rattle.integers.specs.Machine.{told}
 use Rattle.rules.specs.Bilinear.{bilinear}
 use Rattle.lookup.specs.Held.{square, value_in}
-use borrow.Author.Rules.{rules}
-use Rattle.lookup.proofs.weighed.Statement.{statement}
-use Rattle.lookup.proofs.weighed.Tie as tie
+use Rattle.lookup.proofs.weighed.Goals as goal
 
-returns : tie.Need-returns
+pub returns : goal.returns
 unfolding value_in
 returns c =
-    let s = c.before.args in
-    let fits = c.before.ranges in
-    told w64 c.weigh.type-inv
+    let s = c.args in
+    let fits = c.ranges in
+    told w64 c.weigh.type_inv
     (c.weigh.ensures ∙ (λ i. bilinear
     (square (to_z-of_z fits.sw i) (to_z-of_z fits.se i) (to_z-of_z fits.nw i) (to_z-of_z fits.ne i))
     s.at.u s.at.v s.s.latitude s.s.longitude))
-
-pub weighed_spec : {M : Type 1} → statement M
-weighed_spec = tie.close (tie.spec (λ c κs. search rules) returns)
