@@ -6,9 +6,7 @@ use native.Mathlib.Nat.{add-zero}
 use native.Mathlib.Omega.{arith}
 use lib.ListN.{length, get_or, take, drop, length-set, length-drop}
 use lib.Seq.{get_or-drop, sets-eq}
-use borrow.Author.Rules.{rules}
-use Rattle.planes.proofs.copy_four.Statement.{statement}
-use Rattle.planes.proofs.copy_four.Tie as tie
+use Rattle.planes.proofs.copy_four.Goals as goal
 
 -- the first four elements of a list that has so many
 first_four : (l : List ℕ) → 4 ≤ length l → take 4 l ≡ get_or l 0 0 ∷ get_or l 1 0 ∷ get_or l 2 0 ∷ get_or l 3 0 ∷ []
@@ -25,31 +23,12 @@ four l at h =
     let first = byte 0 ∙ ap (λ k. get_or l k 0) (add-zero at) in
     first_four (drop at l) (omega (arith, length-drop at l)) ∙ (λ i. first i ∷ byte 1 i ∷ byte 2 i ∷ byte 3 i ∷ [])
 
-slice_write_rest_2 : tie.Need-slice-write-rest-2
-slice_write_rest_2 c = simp length-set (omega arith)
+pub bounds-rest-1 : goal.bounds-rest-1
+bounds-rest-1 c = simp length-set (omega arith)
 
-slice_write_rest_3 : tie.Need-slice-write-rest-3
-slice_write_rest_3 c = simp length-set (omega arith)
+pub bounds-rest-2 : goal.bounds-rest-2
+bounds-rest-2 c = simp length-set (omega arith)
 
-returns : tie.Need-returns
+pub returns : goal.returns
 returns c =
-    let s = c.before.before.before.before in
-    rw (four s.args.image.now s.args.at s.requires.1) (sets-eq (_ ∷ _ ∷ _ ∷ _ ∷ []) s.args.rest.now 0 s.requires.0)
-
-pub copy_four_spec : {M : Type 1} → statement M
-copy_four_spec =
-    tie.close
-    (tie.spec
-    (λ c. search rules)
-    (λ c. search rules)
-    (λ c. search rules)
-    (λ c. search rules)
-    slice_write_rest_2
-    (λ c. search rules)
-    (λ c. search rules)
-    slice_write_rest_3
-    (λ c. search rules)
-    (λ c. search rules)
-    (λ c. search rules)
-    (λ c. search rules)
-    returns)
+    rw (four c.args.image.now c.args.at c.requires.1) (sets-eq (_ ∷ _ ∷ _ ∷ _ ∷ []) c.args.rest.now 0 c.requires.0)
