@@ -1,4 +1,4 @@
-/* The conversion code of a dike marker, as C calls it (libmarker.a, written by `rt staticlib marker`).
+/* The conversion code of a dike marker, as C calls it (libmarker.a, written by `tests/artifacts`).
  *
  * Angles are whole nd (10^-9 degree), north and east positive; heights are whole units of 0.0001 m. Lengths count elements.
  * Each function checks all that it is given: callers check nothing beforehand. A pointer refers to as many elements as its
@@ -240,7 +240,7 @@ enum {
     MARKER_NOTATION_LENGTH = 4
 };
 
-/* What the library needs, in bytes. The figures are those of the archive that `rt staticlib marker` writes (tests/footprint), and no
+/* What the library needs, in bytes. The figures are those of the archive that `tests/artifacts` writes (tests/footprint), and no
  * call was seen to write more of the stack (tests/stack).
  *
  * The archive is for x86-64 Linux: ELF, System V calling convention. It needs no other library, not even C's: it has no undefined

@@ -1,6 +1,6 @@
 # What tests/gridcheck and tests/roundtrip share: inputs made from grid G's 148 bytes and from images of edition 2, of kinds 0 to 3,
 # and the comparison of what a program prints.
-# To be sourced, with `program` set to the program's name. It is target/bin/NAME, written by `rt ci` or `rt check NAME`.
+# To be sourced, with `program` set to the program's name. It is target/bin/NAME, written by `tests/artifacts`.
 # shellcheck shell=bash disable=SC2154
 set -u
 cd "$(dirname "${BASH_SOURCE[0]}")/.." || exit 2

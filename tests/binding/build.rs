@@ -1,5 +1,5 @@
 //! Links libmarker.a from the folder MARKER_LIB_DIR, or else from target/staticlib at the
-//! repository's root, where `rt staticlib marker` writes it.
+//! repository's root, where `tests/artifacts` writes it.
 
 use std::{env, path::PathBuf};
 
