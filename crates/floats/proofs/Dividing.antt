@@ -35,7 +35,8 @@ at_most false x = omega arith
 
 -- ---- a number in two parts of its first factor
 
-in_parts : (minus : Bool) (m s A : ℕ) → 0 < A → 2 * (m / A * s) + floored_size minus (2 * (m % A * s)) A ≡ floored_size minus (2 * (m * s)) A
+in_parts : (minus : Bool) (m s A : ℕ) → 0 < A
+    → 2 * (m / A * s) + floored_size minus (2 * (m % A * s)) A ≡ floored_size minus (2 * (m * s)) A
 unfolding floored_size
 in_parts minus m s A h =
     let r = cond minus (A - 1) 0 in

@@ -20,7 +20,8 @@ use Rattle.rules.specs.Answers.{Outcome, values, ask}
 use Rattle.rules.specs.Image.{Grid, grid_of}
 use Rattle.rules.specs.Limits.{OpenAround, CornersWithin, CorrectionWithin}
 use Rattle.rules.specs.Bilinear.{corners, corners_for, value_at}
-use Rattle.rules.specs.Lookup.{inside, square_passes, question9, corrections_pass, corrections_at, correction_lookup, correction_grid_lookup}
+use Rattle.rules.specs.Lookup.{inside, square_passes, question9, corrections_pass, corrections_at, correction_lookup}
+use Rattle.rules.specs.Lookup.{correction_grid_lookup}
 use Rattle.rules.specs.Lookup.{some, height_lookup, grid_for}
 use Rattle.rules.specs.Ways.{bounded_source}
 use Rattle.rules.proofs.Answers.{asked}

@@ -7,7 +7,8 @@ use Rattle.std.specs.Int.Signed.{lt_z}
 use Rattle.rules.specs.declared.Notation.{Notation}
 use Rattle.rules.specs.Units.{degrees, within}
 use Rattle.rules.specs.Answers.{values, ask}
-use Rattle.rules.specs.Notation.{per_degree, per_minute, total, axis_limit, positive_letter, negative_letter, total_written, split, write_notation}
+use Rattle.rules.specs.Notation.{per_degree, per_minute, total, axis_limit, positive_letter, negative_letter, total_written, split}
+use Rattle.rules.specs.Notation.{write_notation}
 use Rattle.notation.specs.Totals.{lettered, same_parts, total_split}
 
 -- 3.4b: D, over 3600 × 10^5, is ⌊3600 × 10^5 × |d| + 0.5⌋, where d is z / 10^9 degrees.

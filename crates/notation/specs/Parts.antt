@@ -37,7 +37,8 @@ in_parts true true false true d size h = refl
 in_parts true true false false true size h = refl
 in_parts true true false false false size h = refl
 
-one_letter : (longitude : Bool) (letter : ℕ) → eqb letter (positive_letter longitude) ≡ true → eqb letter (negative_letter longitude) ≡ false
+one_letter : (longitude : Bool) (letter : ℕ) → eqb letter (positive_letter longitude) ≡ true
+    → eqb letter (negative_letter longitude) ≡ false
 one_letter true letter h = let e = eqb-true letter 69 h in ne_eqb letter 87 (λ k. omega arith)
 one_letter false letter h = let e = eqb-true letter 78 h in ne_eqb letter 83 (λ k. omega arith)
 

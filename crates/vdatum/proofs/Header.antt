@@ -32,7 +32,8 @@ both_fit true w true v h k = rw (h, k)
 both_fit true w false v h k = rw h
 both_fit false w g v h k = refl
 
-axis_fits_lem : (b : List ℕ) (start spacing count limit : ℕ) → limit ≤ longitude_limit → AxisPasses limit (header_axis b start spacing count)
+axis_fits_lem : (b : List ℕ) (start spacing count limit : ℕ) → limit ≤ longitude_limit
+    → AxisPasses limit (header_axis b start spacing count)
     → axis_finite b start spacing ≡ axis_fits b start spacing
 unfolding degrees_fit
 axis_fits_lem b start spacing count limit l a =

@@ -25,7 +25,8 @@ nodes_read before b after nodes q g row column l =
     let n = row * columns g + column in
     let z = height_of b n in
     let fits = every_at nodes (height_fits b) q n l in
-    let h : nat_abs z ≤ quasi_geoid_limit = leb-true _ _ (and_right (finite binary32 (height_bits b n)) (within quasi_geoid_limit z) fits) in
+    let h : nat_abs z ≤ quasi_geoid_limit = leb-true _ _ (and_right (finite binary32 (height_bits b n)) (within quasi_geoid_limit z) fits)
+    in
     let bytes : ℕ → List ℕ = λ n. bytes_of (height_of b n) in
     let r = part_among 4 bytes nodes n l in
     let front = before ++ height_nodes b n in

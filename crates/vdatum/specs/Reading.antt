@@ -17,7 +17,8 @@ degrees_read b at = cond (degrees_fit b at) (nearest.Whole (degrees_at b at)) ne
 
 -- An axis both of whose numbers are.
 abbrev pub axis_read : List ℕ → (start spacing count : ℕ) → AxisRead
-axis_read b start spacing count = cond (degrees_fit b start && degrees_fit b spacing) (axis.Fit (header_axis b start spacing count)) axis.Unfit
+axis_read b start spacing count =
+    cond (degrees_fit b start && degrees_fit b spacing) (axis.Fit (header_axis b start spacing count)) axis.Unfit
 
 -- A height that refusal 17 lets pass.
 abbrev pub height_read : List ℕ → (n : ℕ) → Nearest

@@ -30,7 +30,8 @@ first c =
 
 pub returns-then-three_within : goal.returns-then-three_within
 unfolding near
-returns-then-three_within c = and_next (first (goal.at.returns-then-three_within c).After-three_within) c.if-three_within.true c.is_between.ensures
+returns-then-three_within c =
+    and_next (first (goal.at.returns-then-three_within c).After-three_within) c.if-three_within.true c.is_between.ensures
 
 pub returns-else-three_within : goal.returns-else-three_within
 unfolding near

@@ -42,19 +42,31 @@ negative : {t : Half} (c : Else-not-negative) → let a = c.args in
 negative c h = let a = c.args in sym (in_case a.quotient a.remainder a.area c.if-not-negative.false h)
 
 pub returns-then-remainder-missing : goal.returns-then-remainder-missing
-returns-then-remainder-missing c = value_is (goal.at.returns-then-remainder-missing c).Start ∙ positive (goal.at.returns-then-remainder-missing c).Then-not-negative (is_below _ _ (omega arith))
+returns-then-remainder-missing c =
+    value_is (goal.at.returns-then-remainder-missing c).Start
+    ∙ positive (goal.at.returns-then-remainder-missing c).Then-not-negative (is_below _ _ (omega arith))
 
 pub returns-then-remainder-missing-2 : goal.returns-then-remainder-missing-2
-returns-then-remainder-missing-2 c = more_is (goal.at.returns-then-remainder-missing-2 c).Start ∙ positive (goal.at.returns-then-remainder-missing-2 c).Then-not-negative (is_exactly _ _ (omega arith))
+returns-then-remainder-missing-2 c =
+    more_is (goal.at.returns-then-remainder-missing-2 c).Start
+    ∙ positive (goal.at.returns-then-remainder-missing-2 c).Then-not-negative (is_exactly _ _ (omega arith))
 
 pub returns-then-not-negative : goal.returns-then-not-negative
-returns-then-not-negative c = more_is (goal.at.returns-then-not-negative c).Start ∙ positive (goal.at.returns-then-not-negative c).Then-not-negative (is_above _ _ (omega arith))
+returns-then-not-negative c =
+    more_is (goal.at.returns-then-not-negative c).Start
+    ∙ positive (goal.at.returns-then-not-negative c).Then-not-negative (is_above _ _ (omega arith))
 
 pub returns-then-remainder-missing-3 : goal.returns-then-remainder-missing-3
-returns-then-remainder-missing-3 c = minus_back w64 (more_is (goal.at.returns-then-remainder-missing-3 c).Start) (omega arith) ∙ negative (goal.at.returns-then-remainder-missing-3 c).Else-not-negative (is_above _ _ (omega arith))
+returns-then-remainder-missing-3 c =
+    minus_back w64 (more_is (goal.at.returns-then-remainder-missing-3 c).Start) (omega arith)
+    ∙ negative (goal.at.returns-then-remainder-missing-3 c).Else-not-negative (is_above _ _ (omega arith))
 
 pub returns-then-remainder-missing-4 : goal.returns-then-remainder-missing-4
-returns-then-remainder-missing-4 c = minus_back w64 (value_is (goal.at.returns-then-remainder-missing-4 c).Start) (omega arith) ∙ negative (goal.at.returns-then-remainder-missing-4 c).Else-not-negative (is_exactly _ _ (omega arith))
+returns-then-remainder-missing-4 c =
+    minus_back w64 (value_is (goal.at.returns-then-remainder-missing-4 c).Start) (omega arith)
+    ∙ negative (goal.at.returns-then-remainder-missing-4 c).Else-not-negative (is_exactly _ _ (omega arith))
 
 pub returns : goal.returns
-returns c = minus_back w64 (value_is (goal.at.returns c).Start) (omega arith) ∙ negative (goal.at.returns c).Else-not-negative (is_below _ _ (omega arith))
+returns c =
+    minus_back w64 (value_is (goal.at.returns c).Start) (omega arith)
+    ∙ negative (goal.at.returns c).Else-not-negative (is_below _ _ (omega arith))

@@ -67,12 +67,14 @@ pub returns-then-rest-eq0 : goal.returns-then-rest-eq0
 returns-then-rest-eq0 c =
     let z = c.args.whole in
     nothing_left (goal.at.returns-then-rest-eq0 c).Then-rest-eq0
-    (told w64 c.rounded-then-rest-eq0.type_inv (rw (whole_read (goal.at.returns-then-rest-eq0 c).Start, size z c.requires.0) at c.rounded-then-rest-eq0.ensures)
+    (told w64 c.rounded-then-rest-eq0.type_inv
+    (rw (whole_read (goal.at.returns-then-rest-eq0 c).Start, size z c.requires.0) at c.rounded-then-rest-eq0.ensures)
     ∙ whole_below_zero (omega arith) z (below_zero (goal.at.returns-then-rest-eq0 c).Start c.if-whole-ge0.false))
 
 pub returns-then-whole-ge0-2 : goal.returns-then-whole-ge0-2
 returns-then-whole-ge0-2 c =
-    told w64 c.rounded-then-whole-ge0-2.type_inv (rw (whole_read (goal.at.returns-then-whole-ge0-2 c).Start) at c.rounded-then-whole-ge0-2.ensures)
+    told w64 c.rounded-then-whole-ge0-2.type_inv
+    (rw (whole_read (goal.at.returns-then-whole-ge0-2 c).Start) at c.rounded-then-whole-ge0-2.ensures)
     ∙ not_below_zero c.requires.1 c.args.whole (above_zero (goal.at.returns-then-whole-ge0-2 c).Start c.if-whole-ge0-2.true)
 
 -- The size less one, at that place.
@@ -82,5 +84,6 @@ less_at c = size_less c.args.whole c.requires.0 (below_zero (goal.at.Else-whole-
 
 pub returns : goal.returns
 returns c =
-    told w64 c.rounded-2.type_inv (rw (whole_read (goal.at.returns c).Start, less_at (goal.at.returns c).Else-whole-ge0-2) at c.rounded-2.ensures)
+    told w64 c.rounded-2.type_inv
+    (rw (whole_read (goal.at.returns c).Start, less_at (goal.at.returns c).Else-whole-ge0-2) at c.rounded-2.ensures)
     ∙ part_below_zero c.requires.1 c.args.whole (below_zero (goal.at.returns c).Start c.if-whole-ge0-2.false) (omega arith)

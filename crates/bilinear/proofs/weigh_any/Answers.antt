@@ -44,7 +44,9 @@ any_quotient-quotient-requires c = (below c, (goal.at.any_quotient-quotient-requ
 
 -- The quotient of the raised corners.
 quotient_most_lem : (c : After-any_quotient-quotient) → c.any_quotient-quotient.result.whole ≤ 2 * correction_limit
-quotient_most_lem c = rw c.any_quotient-quotient.ensures (whole_most (goal.at.After-any_quotient-quotient c).Start.requires.1 (below (goal.at.After-any_quotient-quotient c).After-raised-ne))
+quotient_most_lem c =
+    rw c.any_quotient-quotient.ensures
+    (whole_most (goal.at.After-any_quotient-quotient c).Start.requires.1 (below (goal.at.After-any_quotient-quotient c).After-raised-ne))
 
 pub lowered-whole-requires : goal.lowered-whole-requires
 lowered-whole-requires c = (omega arith, omega arith, quotient_most_lem c)
@@ -52,12 +54,14 @@ lowered-whole-requires c = (omega arith, omega arith, quotient_most_lem c)
 pub rounded_sum-requires : goal.rounded_sum-requires
 rounded_sum-requires c =
     let lowered_is = told w64 c.lowered-whole.type_inv c.lowered-whole.ensures in (
-      lowered_most (pos 0) _ correction_limit _ (omega arith) (omega arith) (quotient_most_lem (goal.at.rounded_sum-requires c).After-any_quotient-quotient) lowered_is,
+      lowered_most (pos 0) _ correction_limit _ (omega arith) (omega arith)
+          (quotient_most_lem (goal.at.rounded_sum-requires c).After-any_quotient-quotient) lowered_is,
       rw c.any_quotient-quotient.ensures (mod-lt _ (cell_area (goal.at.rounded_sum-requires c).Start.requires.1)),
     )
 
 pub returns : goal.returns
 returns c =
     told w64 c.rounded_sum.type_inv
-    (value_is (goal.at.returns c).Start.requires.1 (gaps (goal.at.returns c).After-raised-ne) c.any_quotient-quotient.ensures (told w64 c.lowered-whole.type_inv c.lowered-whole.ensures)
+    (value_is (goal.at.returns c).Start.requires.1 (gaps (goal.at.returns c).After-raised-ne) c.any_quotient-quotient.ensures
+    (told w64 c.lowered-whole.type_inv c.lowered-whole.ensures)
     c.rounded_sum.ensures)

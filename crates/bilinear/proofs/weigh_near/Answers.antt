@@ -36,20 +36,24 @@ module _ (s : Start) (x : ℤ) (within : nat_abs x ≤ correction_limit) where
       rw (read_corner southwest s.requires.0.southwest, read_corner x within)
       (record { base_within = s.requires.0.southwest; by_most = omega arith; within = within; distance = omega arith })
 
-  raised_is : (n : ℕ) → to_z w64 (of_z w64 x) ≡ (to_z w64 (of_z w64 southwest) -ℤ pos raise) +ℤ pos n → x ≡ (southwest -ℤ pos raise) +ℤ pos n
+  raised_is : (n : ℕ) → to_z w64 (of_z w64 x) ≡ (to_z w64 (of_z w64 southwest) -ℤ pos raise) +ℤ pos n
+      → x ≡ (southwest -ℤ pos raise) +ℤ pos n
   raised_is n e = rw (read_corner southwest s.requires.0.southwest, read_corner x within) at e
 
 pub raised-se-requires : goal.raised-se-requires
 raised-se-requires c =
-    asked (goal.at.raised-se-requires c).Start (square (goal.at.raised-se-requires c).Start).southeast c.requires.0.southeast (tested (goal.at.raised-se-requires c).Start).southeast
+    asked (goal.at.raised-se-requires c).Start (square (goal.at.raised-se-requires c).Start).southeast c.requires.0.southeast
+    (tested (goal.at.raised-se-requires c).Start).southeast
 
 pub raised-nw-requires : goal.raised-nw-requires
 raised-nw-requires c =
-    asked (goal.at.raised-nw-requires c).Start (square (goal.at.raised-nw-requires c).Start).northwest c.requires.0.northwest (tested (goal.at.raised-nw-requires c).Start).northwest
+    asked (goal.at.raised-nw-requires c).Start (square (goal.at.raised-nw-requires c).Start).northwest c.requires.0.northwest
+    (tested (goal.at.raised-nw-requires c).Start).northwest
 
 pub raised-ne-requires : goal.raised-ne-requires
 raised-ne-requires c =
-    asked (goal.at.raised-ne-requires c).Start (square (goal.at.raised-ne-requires c).Start).northeast c.requires.0.northeast (tested (goal.at.raised-ne-requires c).Start).northeast
+    asked (goal.at.raised-ne-requires c).Start (square (goal.at.raised-ne-requires c).Start).northeast c.requires.0.northeast
+    (tested (goal.at.raised-ne-requires c).Start).northeast
 
 gaps : (c : After-raised-ne) → let q = square (goal.at.After-raised-ne c).Start in
     Gaps (q.southwest -ℤ pos raise) q raise c.raised-se.result c.raised-nw.result c.raised-ne.result
@@ -77,14 +81,18 @@ below c =
     }
 
 pub near_quotient-quotient-requires : goal.near_quotient-quotient-requires
-near_quotient-quotient-requires c = let s = (goal.at.near_quotient-quotient-requires c).Start in (below c, s.requires.1, (tested s).area_most)
+near_quotient-quotient-requires c =
+    let s = (goal.at.near_quotient-quotient-requires c).Start in (below c, s.requires.1, (tested s).area_most)
 
 -- The south-west corner, read back, and the quotient of the raised corners.
 southwest_read : (s : Start) → to_z w64 (of_z w64 (square s).southwest) ≡ (square s).southwest
 southwest_read s = read_corner (square s).southwest s.requires.0.southwest
 
 quotient_most_lem : (c : After-near_quotient-quotient) → c.near_quotient-quotient.result.whole ≤ 2 * correction_limit
-quotient_most_lem c = rw c.near_quotient-quotient.ensures (whole_most (goal.at.After-near_quotient-quotient c).Start.requires.1 (below_most (below (goal.at.After-near_quotient-quotient c).After-raised-ne)))
+quotient_most_lem c =
+    rw c.near_quotient-quotient.ensures
+    (whole_most (goal.at.After-near_quotient-quotient c).Start.requires.1
+    (below_most (below (goal.at.After-near_quotient-quotient c).After-raised-ne)))
 
 pub lowered-whole-requires : goal.lowered-whole-requires
 lowered-whole-requires c =
@@ -99,11 +107,13 @@ lowered_is c = told w64 c.lowered-whole.type_inv (rw (southwest_read (goal.at.Af
 pub rounded_sum-requires : goal.rounded_sum-requires
 rounded_sum-requires c =
     let s = (goal.at.rounded_sum-requires c).Start in (
-      lowered_most (square s).southwest _ raise _ s.requires.0.southwest (omega arith) (quotient_most_lem (goal.at.rounded_sum-requires c).After-near_quotient-quotient) (lowered_is c),
+      lowered_most (square s).southwest _ raise _ s.requires.0.southwest (omega arith)
+          (quotient_most_lem (goal.at.rounded_sum-requires c).After-near_quotient-quotient) (lowered_is c),
       rw c.near_quotient-quotient.ensures (mod-lt _ (cell_area s.requires.1)),
     )
 
 pub returns : goal.returns
 returns c =
     told w64 c.rounded_sum.type_inv
-    (value_is (goal.at.returns c).Start.requires.1 (gaps (goal.at.returns c).After-raised-ne) c.near_quotient-quotient.ensures (lowered_is (goal.at.returns c).After-lowered-whole) c.rounded_sum.ensures)
+    (value_is (goal.at.returns c).Start.requires.1 (gaps (goal.at.returns c).After-raised-ne) c.near_quotient-quotient.ensures
+    (lowered_is (goal.at.returns c).After-lowered-whole) c.rounded_sum.ensures)

@@ -35,7 +35,8 @@ pub returns-in-Number : goal.returns-in-Number
 returns-in-Number c =
     let read = sym c.read_digits.ensures ∙ c.in-Number.is in
     let number = told w64 c.negated.type_inv c.negated.ensures in
-    ap decimal.Number number ∙ sym (text_is (goal.at.returns-in-Number c).After-has_minus _ c.if-has_minus.true ∙ ap (signed (λ n. neg_ℤ (pos n))) read)
+    ap decimal.Number number
+    ∙ sym (text_is (goal.at.returns-in-Number c).After-has_minus _ c.if-has_minus.true ∙ ap (signed (λ n. neg_ℤ (pos n))) read)
 
 pub returns-in-Unreadable : goal.returns-in-Unreadable
 returns-in-Unreadable c =
@@ -45,7 +46,8 @@ returns-in-Unreadable c =
 pub returns-in-Number-read_digits : goal.returns-in-Number-read_digits
 returns-in-Number-read_digits c =
     let read = sym c.read_digits-else-has_minus.ensures ∙ c.in-Number-read_digits.is in
-    ap decimal.Number (to_z-of_z (overflow_cast-result c)) ∙ sym (text_is (goal.at.returns-in-Number-read_digits c).After-has_minus _ c.if-has_minus.false ∙ ap (signed pos) read)
+    ap decimal.Number (to_z-of_z (overflow_cast-result c))
+    ∙ sym (text_is (goal.at.returns-in-Number-read_digits c).After-has_minus _ c.if-has_minus.false ∙ ap (signed pos) read)
 
 pub returns-in-Unreadable-read_digits : goal.returns-in-Unreadable-read_digits
 returns-in-Unreadable-read_digits c =

@@ -9,7 +9,8 @@ use Rattle.rules.specs.Floats.{exponent_of, finite, power, bias, signed, value_o
 use Rattle.floats.specs.Nearest.{whole_within, nearest_within}
 use Rattle.floats.proofs.Widths.{mantissa_most, nearest_is, nearest_beyond}
 use Rattle.floats.proofs.nearest_float.Goals as goal
-use Rattle.floats.proofs.nearest_float.Goals.{After-larger-power, After-mantissa_of-m, After-rounded_size-size, After-whole_within, Else-power_of_two-exponent}
+use Rattle.floats.proofs.nearest_float.Goals.{After-larger-power, After-mantissa_of-m, After-rounded_size-size, After-whole_within}
+use Rattle.floats.proofs.nearest_float.Goals.{Else-power_of_two-exponent}
 
 pub returns-then-power_of_two-exponent : goal.returns-then-power_of_two-exponent
 unfolding nearest_within
@@ -33,7 +34,11 @@ returns-then-most-power c =
     let u = c.requires.1 in
     let p = power_is (goal.at.returns-then-most-power c).After-larger-power in
     let g : bias a.f + 20 < power a.f a.bits = omega arith in
-    rw (is_finite (goal.at.returns-then-most-power c).Else-power_of_two-exponent, nearest_beyond a.f a.scale a.bits u.under_least a.limit u.limit_most g)
+    rw (
+      is_finite (goal.at.returns-then-most-power c).Else-power_of_two-exponent,
+      nearest_beyond a.f a.scale a.bits u.under_least a.limit
+          u.limit_most g,
+    )
 
 -- the mantissa is below 2^21 parts
 small : (c : After-mantissa_of-m) → let f = c.args.f in
@@ -62,7 +67,8 @@ found c =
     ∙ sym (rw (c.rounded_size-size.ensures.0, c.is_negative-minus.ensures, c.mantissa_of-m.ensures))
 
 -- the sign and the size that are judged
-judged : (c : After-whole_within) → c.whole_within.result ≡ whole_within c.args.limit (signed c.is_negative-minus.result c.rounded_size-size.result)
+judged : (c : After-whole_within)
+    → c.whole_within.result ≡ whole_within c.args.limit (signed c.is_negative-minus.result c.rounded_size-size.result)
 judged c = c.whole_within.ensures
 
 pub returns : goal.returns

@@ -37,7 +37,12 @@ sum c =
     let a = c.args in
     let n = 2 * (a.m % p.result * a.over) in
     let l : c.floored_size-low.result ≤ n = rw c.floored_size-low.ensures (floored_least a.minus n p.result p.ensures.least) in
-    omega (arith, upper (goal.at.After-floored_size-low c).After-power_of_two-part, lower (goal.at.After-floored_size-low c).After-power_of_two-part)
+    omega (
+      arith,
+      upper (goal.at.After-floored_size-low c).After-power_of_two-part,
+      lower
+          (goal.at.After-floored_size-low c).After-power_of_two-part,
+    )
 
 least : (c : After-floored_size-t) → c.floored_size-t.result ≤ 9200000000000000000
 least c =
@@ -60,7 +65,8 @@ size c =
     let a = c.args in
     let p = c.power_of_two-part in
     in_steps a.minus a.m a.over a.under a.cut a.shift 63 p.result c.floored_size-low.result c.floored_size-t.result
-    c.requires.3 p.ensures.is c.floored_size-low.ensures (omega (arith, sum (goal.at.After-floored_size-t c).After-floored_size-low)) (steps c)
+    c.requires.3 p.ensures.is c.floored_size-low.ensures (omega (arith, sum (goal.at.After-floored_size-t c).After-floored_size-low))
+    (steps c)
 
 -- the half that is added before the last division
 half : (c : After-one_if) → let a = c.args in
@@ -71,8 +77,11 @@ pub returns : goal.returns
 returns c =
     let u = c.args.under in
     let t = c.floored_size-t.result in
-    let down = div-le_self (t + (u - c.one_if.result)) (2 * u) in
-    (rw (half c) (size (goal.at.returns c).After-floored_size-t), omega (arith, least (goal.at.returns c).After-floored_size-t, down, c.requires))
+    let down = div-le_self (t + (u - c.one_if.result)) (2 * u) in (
+      rw (half c) (size (goal.at.returns c).After-floored_size-t),
+      omega
+          (arith, least (goal.at.returns c).After-floored_size-t, down, c.requires),
+    )
 
 pub overflow_mul-m-2 : goal.overflow_mul-m-2
 overflow_mul-m-2 c = omega (arith, lower c)

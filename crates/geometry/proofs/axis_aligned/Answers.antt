@@ -21,12 +21,14 @@ second c = let f = c.far_bound in rw (told w64 f.type_inv f.ensures) at c.is_on_
 pub returns-then-is_on_line-2 : goal.returns-then-is_on_line-2
 unfolding axis_aligned
 returns-then-is_on_line-2 c =
-    and_next (first (goal.at.returns-then-is_on_line-2 c).After-is_on_line) c.if-is_on_line.true (and_next (second (goal.at.returns-then-is_on_line-2 c).After-is_on_line-then-is_on_line) c.if-is_on_line-2.true refl)
+    and_next (first (goal.at.returns-then-is_on_line-2 c).After-is_on_line) c.if-is_on_line.true
+    (and_next (second (goal.at.returns-then-is_on_line-2 c).After-is_on_line-then-is_on_line) c.if-is_on_line-2.true refl)
 
 pub returns-else-is_on_line-2 : goal.returns-else-is_on_line-2
 unfolding axis_aligned
 returns-else-is_on_line-2 c =
-    and_next (first (goal.at.returns-else-is_on_line-2 c).After-is_on_line) c.if-is_on_line.true (and_stop _ (second (goal.at.returns-else-is_on_line-2 c).After-is_on_line-then-is_on_line) c.if-is_on_line-2.false)
+    and_next (first (goal.at.returns-else-is_on_line-2 c).After-is_on_line) c.if-is_on_line.true
+    (and_stop _ (second (goal.at.returns-else-is_on_line-2 c).After-is_on_line-then-is_on_line) c.if-is_on_line-2.false)
 
 pub returns-else-is_on_line : goal.returns-else-is_on_line
 unfolding axis_aligned

@@ -15,7 +15,8 @@ use Rattle.grids.specs.declared.CorrectionCorners.{CorrectionCorners}
 use Rattle.grids.specs.Grids.{latitude_plane, longitude_plane, squares_at, correction_cell, correction_cell_for}
 use Rattle.grids.proofs.Chosen.{chosen, cell_chosen, chosen_serves}
 use Rattle.grids.proofs.correction_cell.Goals as goal
-use Rattle.grids.proofs.correction_cell.Goals.{After-cell_of-cell, After-corrections_at-c, After-corrections_pass, After-is_taken_dense-dense}
+use Rattle.grids.proofs.correction_cell.Goals.{After-cell_of-cell, After-corrections_at-c, After-corrections_pass}
+use Rattle.grids.proofs.correction_cell.Goals.{After-is_taken_dense-dense}
 
 -- the grid that serves the point, and the point's cell there
 abbrev dense : After-is_taken_dense-dense → Bool
@@ -28,11 +29,16 @@ serving : (c : After-is_taken_dense-dense) → let s = c.args in Serves s.l.lati
 serving c =
     chosen_serves c.args.image.now c.args.l c.args.p (dense c) c.requires c.is_taken_dense-dense.ensures
 
-cell : (c : After-cell_of-cell) → c.cell_of-cell.result ≡ cell_place (geometry (goal.at.After-cell_of-cell c).After-is_taken_dense-dense) c.args.p
+cell : (c : After-cell_of-cell)
+    → c.cell_of-cell.result ≡ cell_place (geometry (goal.at.After-cell_of-cell c).After-is_taken_dense-dense) c.args.p
 cell c = c.cell_of-cell.ensures ∙ (λ i. cell_place (c.geometry_for-g.ensures i) c.args.p)
 
 pub corrections_at-c-requires : goal.corrections_at-c-requires
-corrections_at-c-requires c = (c.requires.layout, cell_inside (serving (goal.at.corrections_at-c-requires c).After-is_taken_dense-dense).bounded (cell (goal.at.corrections_at-c-requires c).After-cell_of-cell))
+corrections_at-c-requires c = (
+  c.requires.layout,
+  cell_inside (serving (goal.at.corrections_at-c-requires c).After-is_taken_dense-dense).bounded
+      (cell (goal.at.corrections_at-c-requires c).After-cell_of-cell),
+)
 
 -- its corners, and question 9 of them
 abbrev squares_of : After-is_taken_dense-dense → CorrectionSquares
@@ -42,7 +48,8 @@ squares_of c =
     let at = cell_place (geometry c) s.p in
     squares_at (plane b (latitude_plane s.l (dense c))) (plane b (longitude_plane s.l (dense c))) at.row at.column
 
-squares : (c : After-corrections_at-c) → c.corrections_at-c.result ≡ squares_of (goal.at.After-corrections_at-c c).After-is_taken_dense-dense
+squares : (c : After-corrections_at-c)
+    → c.corrections_at-c.result ≡ squares_of (goal.at.After-corrections_at-c c).After-is_taken_dense-dense
 squares c =
     let s = c.args in
     let b = s.image.now in
@@ -54,7 +61,8 @@ squares c =
 abbrev passes : CorrectionSquares → Bool
 passes c = square_passes correction_limit c.latitude && square_passes correction_limit c.longitude
 
-question9_is : (c : After-corrections_pass) → c.corrections_pass.result ≡ passes (squares_of (goal.at.After-corrections_pass c).After-is_taken_dense-dense)
+question9_is : (c : After-corrections_pass)
+    → c.corrections_pass.result ≡ passes (squares_of (goal.at.After-corrections_pass c).After-is_taken_dense-dense)
 question9_is c = c.corrections_pass.ensures ∙ ap passes (squares (goal.at.After-corrections_pass c).After-corrections_at-c)
 
 -- the rule, by the planes that were chosen
@@ -72,7 +80,11 @@ rule c =
 pub returns-then-not-corrections_pass : goal.returns-then-not-corrections_pass
 unfolding correction_cell
 returns-then-not-corrections_pass c =
-    rw (← rule (goal.at.returns-then-not-corrections_pass c).After-is_taken_dense-dense, sym (question9_is (goal.at.returns-then-not-corrections_pass c).After-corrections_pass) ∙ c.if-not-corrections_pass.true)
+    rw (
+      ← rule (goal.at.returns-then-not-corrections_pass c).After-is_taken_dense-dense,
+      sym
+          (question9_is (goal.at.returns-then-not-corrections_pass c).After-corrections_pass) ∙ c.if-not-corrections_pass.true,
+    )
 
 pub returns : goal.returns
 unfolding correction_cell
@@ -84,4 +96,8 @@ returns c =
       spacings = spacings i;
       at = (cell (goal.at.returns c).After-cell_of-cell i).at;
     } in
-    rw (← rule (goal.at.returns c).After-is_taken_dense-dense, sym (question9_is (goal.at.returns c).After-corrections_pass) ∙ c.if-not-corrections_pass.false) (ap values corners)
+    rw (
+      ← rule (goal.at.returns c).After-is_taken_dense-dense,
+      sym (question9_is (goal.at.returns c).After-corrections_pass)
+          ∙ c.if-not-corrections_pass.false,
+    ) (ap values corners)

@@ -22,7 +22,11 @@ cell : (c : After-cell_of-cell) → c.cell_of-cell.result ≡ cell_place (geomet
 cell c = c.cell_of-cell.ensures ∙ (λ i. cell_place (c.geometry_for-g.ensures i) c.args.p)
 
 pub corrections_at-c-requires : goal.corrections_at-c-requires
-corrections_at-c-requires c = (c.requires.0.layout, cell_inside (serving (goal.at.corrections_at-c-requires c).Start).bounded (cell (goal.at.corrections_at-c-requires c).After-cell_of-cell))
+corrections_at-c-requires c = (
+  c.requires.0.layout,
+  cell_inside (serving (goal.at.corrections_at-c-requires c).Start).bounded
+      (cell (goal.at.corrections_at-c-requires c).After-cell_of-cell),
+)
 
 pub held_cell-requires : goal.held_cell-requires
 held_cell-requires c =
@@ -30,8 +34,10 @@ held_cell-requires c =
     let v = serving (goal.at.held_cell-requires c).Start in
     let i = v.bounded.point in (
       bounded_around c.requires.0,
-      rw (cell (goal.at.held_cell-requires c).After-cell_of-cell) (part_in v.covers.latitude p.latitude (on_latitude (geometry (goal.at.held_cell-requires c).Start) p i)),
-      rw (cell (goal.at.held_cell-requires c).After-cell_of-cell) (part_in v.covers.longitude p.longitude (on_longitude (geometry (goal.at.held_cell-requires c).Start) p i)),
+      rw (cell (goal.at.held_cell-requires c).After-cell_of-cell)
+          (part_in v.covers.latitude p.latitude (on_latitude (geometry (goal.at.held_cell-requires c).Start) p i)),
+      rw (cell (goal.at.held_cell-requires c).After-cell_of-cell)
+          (part_in v.covers.longitude p.longitude (on_longitude (geometry (goal.at.held_cell-requires c).Start) p i)),
     )
 
 pub returns : goal.returns

@@ -14,7 +14,8 @@ use Rattle.lookup.specs.Held.{Bounded, InCellOf, value_in}
 use Rattle.lookup.proofs.Places.{cell_inside, place_inside}
 use Rattle.grids.specs.declared.CorrectionSquares.{CorrectionSquares}
 use Rattle.grids.proofs.corrections_or_zero.Goals as goal
-use Rattle.grids.proofs.corrections_or_zero.Goals.{After-corrections_at-c, After-corrections_pass, After-spacings_of-spacings, Else-not-corrections_pass, Else-not-in_bounds, Start}
+use Rattle.grids.proofs.corrections_or_zero.Goals.{After-corrections_at-c, After-corrections_pass, After-spacings_of-spacings}
+use Rattle.grids.proofs.corrections_or_zero.Goals.{Else-not-corrections_pass, Else-not-in_bounds, Start}
 
 abbrev grid : Start → Grid
 grid s = grid_of s.args.image.now s.args.l
@@ -30,7 +31,8 @@ bounded : (c : Else-not-in_bounds) → let s = c.args in Bounded s.l.latitude.ge
 bounded c = record { geometry = c.requires.latitude.geometry; point = in_bounds c }
 
 pub corrections_at-c-requires : goal.corrections_at-c-requires
-corrections_at-c-requires c = (c.requires, cell_inside (bounded (goal.at.corrections_at-c-requires c).Else-not-in_bounds) c.cell_of-cell.ensures)
+corrections_at-c-requires c =
+    (c.requires, cell_inside (bounded (goal.at.corrections_at-c-requires c).Else-not-in_bounds) c.cell_of-cell.ensures)
 
 abbrev squares : Start → CorrectionSquares
 squares s =
@@ -44,12 +46,18 @@ corners c = rw c.cell_of-cell.ensures at c.corrections_at-c.ensures
 asked : (c : After-corrections_pass) → c.corrections_pass.result ≡ corrections_pass (grid (goal.at.After-corrections_pass c).Start) c.args.p
 unfolding corrections_pass
 asked c = c.corrections_pass.ensures
-    ∙ (λ i. let k = corners (goal.at.After-corrections_pass c).After-corrections_at-c i in square_passes correction_limit k.latitude && square_passes correction_limit k.longitude)
+    ∙
+    (λ i. let k = corners (goal.at.After-corrections_pass c).After-corrections_at-c i in square_passes correction_limit k.latitude &&
+    square_passes correction_limit k.longitude)
 
 pub returns-then-not-corrections_pass : goal.returns-then-not-corrections_pass
 unfolding corrections_or_zero correction_grid_lookup
 returns-then-not-corrections_pass c =
-    rw (in_bounds (goal.at.returns-then-not-corrections_pass c).Else-not-in_bounds, sym (asked (goal.at.returns-then-not-corrections_pass c).After-corrections_pass) ∙ c.if-not-corrections_pass.true)
+    rw (
+      in_bounds (goal.at.returns-then-not-corrections_pass c).Else-not-in_bounds,
+      sym
+          (asked (goal.at.returns-then-not-corrections_pass c).After-corrections_pass) ∙ c.if-not-corrections_pass.true,
+    )
 
 -- corners that pass, and the point's place
 passes : (c : Else-not-corrections_pass) → let k = c.corrections_at-c.result in
@@ -57,22 +65,41 @@ passes : (c : Else-not-corrections_pass) → let k = c.corrections_at-c.result i
 passes c = sym c.corrections_pass.ensures ∙ c.if-not-corrections_pass.false
 
 place : (c : After-spacings_of-spacings) → InCellOf c.spacings_of-spacings.result c.cell_of-cell.result.at
-place c = rw c.spacings_of-spacings.ensures (place_inside (bounded (goal.at.After-spacings_of-spacings c).Else-not-in_bounds) c.cell_of-cell.ensures)
+place c =
+    rw c.spacings_of-spacings.ensures
+    (place_inside (bounded (goal.at.After-spacings_of-spacings c).Else-not-in_bounds) c.cell_of-cell.ensures)
 
 pub value_between-latitude-requires : goal.value_between-latitude-requires
-value_between-latitude-requires c = (corners_within _ _ (and_left _ _ (passes (goal.at.value_between-latitude-requires c).Else-not-corrections_pass)), place (goal.at.value_between-latitude-requires c).After-spacings_of-spacings)
+value_between-latitude-requires c = (
+  corners_within _ _ (and_left _ _ (passes (goal.at.value_between-latitude-requires c).Else-not-corrections_pass)),
+  place
+      (goal.at.value_between-latitude-requires c).After-spacings_of-spacings,
+)
 
 pub value_between-longitude-requires : goal.value_between-longitude-requires
 value_between-longitude-requires c =
-    let k = c.corrections_at-c.result in
-    (corners_within _ _ (and_right (square_passes correction_limit k.latitude) _ (passes (goal.at.value_between-longitude-requires c).Else-not-corrections_pass)), place (goal.at.value_between-longitude-requires c).After-spacings_of-spacings)
+    let k = c.corrections_at-c.result in (
+      corners_within _ _
+          (and_right (square_passes correction_limit k.latitude) _
+          (passes (goal.at.value_between-longitude-requires c).Else-not-corrections_pass)),
+      place (goal.at.value_between-longitude-requires
+          c).After-spacings_of-spacings,
+    )
 
 pub returns : goal.returns
 unfolding corrections_or_zero correction_grid_lookup value_at value_in
 returns c =
     let latitude = told w64 c.value_between-latitude.type_inv (c.value_between-latitude.ensures
-    ∙ (λ i. value_in (corners (goal.at.returns c).After-corrections_at-c i).latitude (c.spacings_of-spacings.ensures i) (c.cell_of-cell.ensures i).at)) in
+    ∙
+    (λ i. value_in (corners (goal.at.returns c).After-corrections_at-c i).latitude (c.spacings_of-spacings.ensures i)
+    (c.cell_of-cell.ensures i).at)) in
     let longitude = told w64 c.value_between-longitude.type_inv (c.value_between-longitude.ensures
-    ∙ (λ i. value_in (corners (goal.at.returns c).After-corrections_at-c i).longitude (c.spacings_of-spacings.ensures i) (c.cell_of-cell.ensures i).at)) in
-    rw (in_bounds (goal.at.returns c).Else-not-in_bounds, sym (asked (goal.at.returns c).After-corrections_pass) ∙ c.if-not-corrections_pass.false)
+    ∙
+    (λ i. value_in (corners (goal.at.returns c).After-corrections_at-c i).longitude (c.spacings_of-spacings.ensures i)
+    (c.cell_of-cell.ensures i).at)) in
+    rw (
+      in_bounds (goal.at.returns c).Else-not-in_bounds,
+      sym (asked (goal.at.returns c).After-corrections_pass)
+          ∙ c.if-not-corrections_pass.false,
+    )
     (λ i. values (record { latitude = latitude i; longitude = longitude i }))

@@ -23,7 +23,8 @@ unfolding height_cell
 returns-then-not-in_bounds c = rw (sym c.in_bounds.ensures ∙ c.if-not-in_bounds.true)
 
 pub corners_at-height-requires : goal.corners_at-height-requires
-corners_at-height-requires c = (c.requires, cell_inside (in_bounds (goal.at.corners_at-height-requires c).Else-not-in_bounds) c.cell_of-cell.ensures)
+corners_at-height-requires c =
+    (c.requires, cell_inside (in_bounds (goal.at.corners_at-height-requires c).Else-not-in_bounds) c.cell_of-cell.ensures)
 
 corners : (c : After-corners_at-height) → let s = c.args in
     c.corners_at-height.result ≡ corners_for s.p.geometry (plane s.image.now s.p) s.q
@@ -36,10 +37,21 @@ asked c = c.square_passes.ensures ∙ ap (square_passes quasi_geoid_limit) (corn
 pub returns-then-not-square_passes : goal.returns-then-not-square_passes
 unfolding height_cell
 returns-then-not-square_passes c =
-    rw (on_grid (goal.at.returns-then-not-square_passes c).Else-not-in_bounds, sym (asked (goal.at.returns-then-not-square_passes c).After-square_passes) ∙ c.if-not-square_passes.true)
+    rw (
+      on_grid (goal.at.returns-then-not-square_passes c).Else-not-in_bounds,
+      sym
+          (asked (goal.at.returns-then-not-square_passes c).After-square_passes) ∙ c.if-not-square_passes.true,
+    )
 
 pub returns : goal.returns
 unfolding height_cell
 returns c =
     rw (on_grid (goal.at.returns c).Else-not-in_bounds, sym (asked (goal.at.returns c).After-square_passes) ∙ c.if-not-square_passes.false)
-    (ap values (λ i. record { height = corners (goal.at.returns c).After-corners_at-height i; spacings = c.spacings_of-spacings.ensures i; at = (c.cell_of-cell.ensures i).at }))
+    (ap values
+    (λ i. record {
+      height =
+          corners (goal.at.returns c).After-corners_at-height i;
+      spacings =
+          c.spacings_of-spacings.ensures i;
+      at = (c.cell_of-cell.ensures i).at;
+    }))

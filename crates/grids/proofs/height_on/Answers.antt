@@ -32,8 +32,13 @@ weighed s = height_weighed _ _ _
 
 pub returns-in-Corners : goal.returns-in-Corners
 returns-in-Corners c =
-    rw (← weighed (goal.at.returns-in-Corners c).Start, found (goal.at.returns-in-Corners c).In-Corners) (ap (λ (z : ℤ). values (some z)) (told w64 c.height_between.type_inv c.height_between.ensures))
+    rw (← weighed (goal.at.returns-in-Corners c).Start, found (goal.at.returns-in-Corners c).In-Corners)
+    (ap (λ (z : ℤ). values (some z)) (told w64 c.height_between.type_inv c.height_between.ensures))
 
 pub returns-in-Refused : goal.returns-in-Refused
 returns-in-Refused c =
-    rw (← weighed (goal.at.returns-in-Refused c).Start, cell (goal.at.returns-in-Refused c).After-height_cell ∙ ap height_cell_of c.in-Refused.is)
+    rw (
+      ← weighed (goal.at.returns-in-Refused c).Start,
+      cell (goal.at.returns-in-Refused c).After-height_cell
+          ∙ ap height_cell_of c.in-Refused.is,
+    )

@@ -24,7 +24,8 @@ bounded : (c : Else-not-in_bounds) → let s = c.args in Bounded s.p.geometry s.
 bounded c = record { geometry = c.requires.geometry; point = on_grid c }
 
 pub corners_at-corners-requires : goal.corners_at-corners-requires
-corners_at-corners-requires c = (c.requires, cell_inside (bounded (goal.at.corners_at-corners-requires c).Else-not-in_bounds) c.cell_of-cell.ensures)
+corners_at-corners-requires c =
+    (c.requires, cell_inside (bounded (goal.at.corners_at-corners-requires c).Else-not-in_bounds) c.cell_of-cell.ensures)
 
 corners : (c : After-corners_at-corners) → let s = c.args in
     c.corners_at-corners.result ≡ corners_for s.p.geometry (plane s.image.now s.p) s.q
@@ -37,7 +38,11 @@ asked c = c.square_passes.ensures ∙ ap (square_passes quasi_geoid_limit) (corn
 pub returns-then-not-square_passes : goal.returns-then-not-square_passes
 unfolding height_on
 returns-then-not-square_passes c =
-    rw (on_grid (goal.at.returns-then-not-square_passes c).Else-not-in_bounds, sym (asked (goal.at.returns-then-not-square_passes c).After-square_passes) ∙ c.if-not-square_passes.true)
+    rw (
+      on_grid (goal.at.returns-then-not-square_passes c).Else-not-in_bounds,
+      sym
+          (asked (goal.at.returns-then-not-square_passes c).After-square_passes) ∙ c.if-not-square_passes.true,
+    )
 
 pub value_between-requires : goal.value_between-requires
 value_between-requires c =
@@ -49,5 +54,11 @@ pub returns : goal.returns
 unfolding height_on value_at value_in
 returns c =
     let value = told w64 c.value_between.type_inv (c.value_between.ensures
-    ∙ (λ i. value_in (corners (goal.at.returns c).After-corners_at-corners i) (c.spacings_of-spacings.ensures i) (c.cell_of-cell.ensures i).at)) in
-    rw (on_grid (goal.at.returns c).Else-not-in_bounds, sym (asked (goal.at.returns c).After-square_passes) ∙ c.if-not-square_passes.false) (ap (λ (z : ℤ). values (some z)) value)
+    ∙
+    (λ i. value_in (corners (goal.at.returns c).After-corners_at-corners i) (c.spacings_of-spacings.ensures i)
+    (c.cell_of-cell.ensures i).at)) in
+    rw (
+      on_grid (goal.at.returns c).Else-not-in_bounds,
+      sym (asked (goal.at.returns c).After-square_passes)
+          ∙ c.if-not-square_passes.false,
+    ) (ap (λ (z : ℤ). values (some z)) value)

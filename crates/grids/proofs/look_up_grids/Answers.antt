@@ -15,7 +15,8 @@ abbrev grid : Start → Grid
 grid s = grid_of s.args.image.now s.args.l
 
 -- the corners of the corrections
-corrections : (c : After-correction_cell) → correction_cell_for (grid (goal.at.After-correction_cell c).Start) c.args.p ≡ correction_cell_of c.correction_cell.result
+corrections : (c : After-correction_cell)
+    → correction_cell_for (grid (goal.at.After-correction_cell c).Start) c.args.p ≡ correction_cell_of c.correction_cell.result
 corrections c = sym c.correction_cell.ensures
 
 corrected : (c : In-Corners) → correction_cell_for (grid (goal.at.In-Corners c).Start) c.args.p ≡ values c.in-Corners.c
@@ -33,19 +34,28 @@ values_on-requires c =
     let f = grid_for g c.args.p in
     let b = (serves c.args.image.now c.args.l c.args.p c.requires).bounded in (
       corrections_weighed f.latitude f.longitude b (corrected (goal.at.values_on-requires c).In-Corners),
-      heights_weighed g.height c.args.p c.requires.layout.height.geometry (heights (goal.at.values_on-requires c).After-height_cell ∙ ap height_cell_of c.in-Corners-height_cell.is),
+      heights_weighed g.height c.args.p c.requires.layout.height.geometry (heights (goal.at.values_on-requires c).After-height_cell
+          ∙ ap height_cell_of c.in-Corners-height_cell.is),
     )
 
 pub returns-in-Corners-height_cell : goal.returns-in-Corners-height_cell
 unfolding grids_lookup
 returns-in-Corners-height_cell c =
-    rw (corrected (goal.at.returns-in-Corners-height_cell c).In-Corners, heights (goal.at.returns-in-Corners-height_cell c).After-height_cell ∙ ap height_cell_of c.in-Corners-height_cell.is)
+    rw (
+      corrected (goal.at.returns-in-Corners-height_cell c).In-Corners,
+      heights (goal.at.returns-in-Corners-height_cell c).After-height_cell
+          ∙ ap height_cell_of c.in-Corners-height_cell.is,
+    )
     (ap (λ (v : PointValues). values (values_found v)) c.values_on.ensures)
 
 pub returns-in-Refused-height_cell : goal.returns-in-Refused-height_cell
 unfolding grids_lookup
 returns-in-Refused-height_cell c =
-    rw (corrected (goal.at.returns-in-Refused-height_cell c).In-Corners, heights (goal.at.returns-in-Refused-height_cell c).After-height_cell ∙ ap height_cell_of c.in-Refused-height_cell.is)
+    rw (
+      corrected (goal.at.returns-in-Refused-height_cell c).In-Corners,
+      heights (goal.at.returns-in-Refused-height_cell c).After-height_cell
+          ∙ ap height_cell_of c.in-Refused-height_cell.is,
+    )
 
 pub returns-in-Refused : goal.returns-in-Refused
 unfolding grids_lookup

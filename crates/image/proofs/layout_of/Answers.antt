@@ -33,12 +33,14 @@ read_dense_trailer-requires c =
 
 pub nested_layout-requires : goal.nested_layout-requires
 nested_layout-requires c =
-    let o = opened_nested _ _ (second (goal.at.nested_layout-requires c).Then-separate) (two_layout_separate _) (nested (goal.at.nested_layout-requires c).Then-is_nested) in
+    let o = opened_nested _ _ (second (goal.at.nested_layout-requires c).Then-separate) (two_layout_separate _)
+    (nested (goal.at.nested_layout-requires c).Then-is_nested) in
     rw (c.read_dense_trailer.ensures, c.read_two_grid_trailer-t.ensures) (o.bytes, nested (goal.at.nested_layout-requires c).Then-is_nested)
 
 pub two_grid_layout-requires : goal.two_grid_layout-requires
 two_grid_layout-requires c =
-    rw c.read_two_grid_trailer-t.ensures (opened_two _ _ (second (goal.at.two_grid_layout-requires c).Then-separate) (two_layout_separate _) (not_nested c))
+    rw c.read_two_grid_trailer-t.ensures
+    (opened_two _ _ (second (goal.at.two_grid_layout-requires c).Then-separate) (two_layout_separate _) (not_nested c))
 
 pub read_trailer-requires : goal.read_trailer-requires
 read_trailer-requires c = (opened_one _ _ (first c) refl).0

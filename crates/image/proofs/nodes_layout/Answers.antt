@@ -26,7 +26,9 @@ overflow_add-first-2 c = omega (arith, back_of_lem (goal.at.overflow_add-first-2
 pub returns : goal.returns
 returns c =
     let g = c.args.t.geometry in
-    let first : (k : ℕ) → c.args.size - c.args.t.back + k ≡ c.args.size - back_of g + k = λ k i. c.args.size - (back_of_lem (goal.at.returns c).Start).0 i + k in
+    let first : (k : ℕ)
+    → c.args.size - c.args.t.back + k ≡ c.args.size - back_of g + k =
+    λ k i. c.args.size - (back_of_lem (goal.at.returns c).Start).0 i + k in
     let latitude = c.plane_at-latitude.ensures ∙ (λ i. plane_at g (c.args.size - (back_of_lem (goal.at.returns c).Start).0 i) 12) in
     let longitude = c.plane_at-longitude.ensures ∙ (λ i. plane_at g (first 4 i) 12) in
     let height = c.plane_at-height.ensures ∙ (λ i. plane_at g (first 8 i) 12) in

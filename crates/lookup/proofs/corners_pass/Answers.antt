@@ -12,7 +12,8 @@ returns-then-square_passes-2 c =
 pub returns-else-square_passes-2 : goal.returns-else-square_passes-2
 unfolding corners_pass
 returns-else-square_passes-2 c =
-    and_next c.square_passes.ensures c.if-square_passes.true (and_stop _ c.square_passes-then-square_passes.ensures c.if-square_passes-2.false)
+    and_next c.square_passes.ensures c.if-square_passes.true
+    (and_stop _ c.square_passes-then-square_passes.ensures c.if-square_passes-2.false)
 
 pub returns-else-square_passes : goal.returns-else-square_passes
 unfolding corners_pass

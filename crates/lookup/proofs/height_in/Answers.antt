@@ -36,20 +36,35 @@ height_is t =
     ∙ sym (answered_yes s.h.passes 9 _ (passes (goal.at.After-place_in-at t).Else-not-h))
 
 pub is_near-requires : goal.is_near-requires
-is_near-requires c = (within (goal.at.is_near-requires c).After-place_in-at, ((place (goal.at.is_near-requires c).After-place_in-at).latitude_spacing, (place (goal.at.is_near-requires c).After-place_in-at).longitude_spacing))
+is_near-requires c = (
+  within (goal.at.is_near-requires c).After-place_in-at,
+  (
+    (place (goal.at.is_near-requires c).After-place_in-at).latitude_spacing,
+    (place (goal.at.is_near-requires c).After-place_in-at).longitude_spacing,
+  ),
+)
 
 pub near_value-requires : goal.near_value-requires
-near_value-requires c =
-    (within (goal.at.near_value-requires c).After-place_in-at, place (goal.at.near_value-requires c).After-place_in-at, sym c.is_near.ensures ∙ c.if-is_near.true)
+near_value-requires c = (
+  within (goal.at.near_value-requires c).After-place_in-at,
+  place (goal.at.near_value-requires c).After-place_in-at,
+  sym
+      c.is_near.ensures ∙ c.if-is_near.true,
+)
 
 heights : (c : After-struct_told-4-1) → let h = c.args.h in read_back h.corners.height ≡ h.corners.height
 heights c = let f = c.struct_told-1.given in square_back _ f.0.1 f.1.0.1 f.1.1.0.1 f.1.1.1.0.1
 
 pub weighed-requires : goal.weighed-requires
-weighed-requires c = (subst (CornersWithin correction_limit) (sym (heights c)) (within (goal.at.weighed-requires c).After-place_in-at), place (goal.at.weighed-requires c).After-place_in-at)
+weighed-requires c = (
+  subst (CornersWithin correction_limit) (sym (heights c)) (within (goal.at.weighed-requires c).After-place_in-at),
+  place
+      (goal.at.weighed-requires c).After-place_in-at,
+)
 
 pub returns : goal.returns
 returns c =
     let s = c.args in
-    let z = c.weighed.ensures ∙ ap (λ (q : Square). value_in q s.h.spacings c.place_in-at.result) (heights (goal.at.returns c).After-struct_told-4-1) in
+    let z = c.weighed.ensures
+    ∙ ap (λ (q : Square). value_in q s.h.spacings c.place_in-at.result) (heights (goal.at.returns c).After-struct_told-4-1) in
     ap (λ (z : ℤ). values (some z)) (told w64 c.weighed.type_inv z) ∙ height_is (goal.at.returns c).After-place_in-at

@@ -13,7 +13,9 @@ first c = rw c.offsets_of-from.ensures at c.is_reached.ensures
 
 pub returns-then-is_reached : goal.returns-then-is_reached
 unfolding lies_in
-returns-then-is_reached c = and_next (first (goal.at.returns-then-is_reached c).After-is_reached) c.if-is_reached.true (rw c.offsets_of-from.ensures at c.is_reached-then-is_reached.ensures)
+returns-then-is_reached c =
+    and_next (first (goal.at.returns-then-is_reached c).After-is_reached) c.if-is_reached.true
+    (rw c.offsets_of-from.ensures at c.is_reached-then-is_reached.ensures)
 
 pub returns-else-is_reached : goal.returns-else-is_reached
 unfolding lies_in

@@ -28,12 +28,15 @@ corners_around-corners-requires c =
 
 asked : (c : After-corners_pass) → c.corners_pass.result ≡ question9 (grid (goal.at.After-corners_pass c).Start) c.args.p
 asked c =
-    c.corners_pass.ensures ∙ node_asked (grid (goal.at.After-corners_pass c).Start) c.args.p c.requires.1 c.cell_of-cell.ensures c.corners_around-corners.ensures
+    c.corners_pass.ensures
+    ∙ node_asked (grid (goal.at.After-corners_pass c).Start) c.args.p c.requires.1 c.cell_of-cell.ensures c.corners_around-corners.ensures
 
 pub returns-then-not-corners_pass : goal.returns-then-not-corners_pass
 unfolding height_lookup
 returns-then-not-corners_pass c =
-    sym (answered_no (question9 (grid (goal.at.returns-then-not-corners_pass c).Start) c.args.p) 9 _ (sym (asked (goal.at.returns-then-not-corners_pass c).After-corners_pass) ∙ c.if-not-corners_pass.true))
+    sym
+    (answered_no (question9 (grid (goal.at.returns-then-not-corners_pass c).Start) c.args.p) 9 _
+    (sym (asked (goal.at.returns-then-not-corners_pass c).After-corners_pass) ∙ c.if-not-corners_pass.true))
 
 passes : (c : Else-not-corners_pass) → c.corners_pass.result ≡ true
 passes c = c.if-not-corners_pass.false
@@ -53,4 +56,6 @@ returns c =
     let found = told w64 c.value_between.type_inv (c.value_between.ensures
     ∙ (λ i. value_in c.corners_around-corners.result.height (c.spacings_of.ensures i) c.cell_of-cell.result.at)
     ∙ ap (λ (v : PointValues). v.height) all ∙ (λ i. value_at (sym same i) g.height p)) in
-    ap (λ (z : ℤ). values (some z)) found ∙ sym (answered_yes (question9 g p) 9 _ (sym (asked (goal.at.returns c).After-corners_pass) ∙ passes (goal.at.returns c).Else-not-corners_pass))
+    ap (λ (z : ℤ). values (some z)) found
+    ∙ sym (answered_yes (question9 g p) 9 _ (sym (asked (goal.at.returns c).After-corners_pass)
+    ∙ passes (goal.at.returns c).Else-not-corners_pass))

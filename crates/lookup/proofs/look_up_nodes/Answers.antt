@@ -23,12 +23,15 @@ corners_around-c-requires c =
 
 asked : (c : After-corners_pass) → c.corners_pass.result ≡ question9 (grid (goal.at.After-corners_pass c).Start) c.args.p
 asked c =
-    c.corners_pass.ensures ∙ node_asked (grid (goal.at.After-corners_pass c).Start) c.args.p c.requires.1 c.cell_of-cell.ensures c.corners_around-c.ensures
+    c.corners_pass.ensures
+    ∙ node_asked (grid (goal.at.After-corners_pass c).Start) c.args.p c.requires.1 c.cell_of-cell.ensures c.corners_around-c.ensures
 
 pub returns-then-not-corners_pass : goal.returns-then-not-corners_pass
 unfolding node_lookup
 returns-then-not-corners_pass c =
-    sym (answered_no (question9 (grid (goal.at.returns-then-not-corners_pass c).Start) c.args.p) 9 _ (sym (asked (goal.at.returns-then-not-corners_pass c).After-corners_pass) ∙ c.if-not-corners_pass.true))
+    sym
+    (answered_no (question9 (grid (goal.at.returns-then-not-corners_pass c).Start) c.args.p) 9 _
+    (sym (asked (goal.at.returns-then-not-corners_pass c).After-corners_pass) ∙ c.if-not-corners_pass.true))
 
 passes : (c : Else-not-corners_pass) → c.corners_pass.result ≡ true
 passes c = c.if-not-corners_pass.false
@@ -45,4 +48,5 @@ returns c =
     ∙ (λ i. values_in c.corners_around-c.result (c.spacings_of.ensures i) c.cell_of-cell.result.at)
     ∙ node_values_lem (grid (goal.at.returns c).Start) c.args.p c.requires.1 c.cell_of-cell.ensures c.corners_around-c.ensures in
     ap (λ (v : PointValues). values (values_found v)) found
-    ∙ sym (answered_yes (question9 (grid (goal.at.returns c).Start) c.args.p) 9 _ (sym (asked (goal.at.returns c).After-corners_pass) ∙ passes (goal.at.returns c).Else-not-corners_pass))
+    ∙ sym (answered_yes (question9 (grid (goal.at.returns c).Start) c.args.p) 9 _ (sym (asked (goal.at.returns c).After-corners_pass)
+    ∙ passes (goal.at.returns c).Else-not-corners_pass))

@@ -17,4 +17,5 @@ pub returns : goal.returns
 unfolding value_in
 returns c =
     let s = c.args in
-    told w64 c.weigh_near.type_inv (c.weigh_near.ensures ∙ ap (λ (q : Square). value_in q s.s s.at) (corners (goal.at.returns c).After-struct_told-2-1))
+    told w64 c.weigh_near.type_inv (c.weigh_near.ensures
+    ∙ ap (λ (q : Square). value_in q s.s s.at) (corners (goal.at.returns c).After-struct_told-2-1))

@@ -16,8 +16,11 @@ inside c =
     omega (arith, c.row_start-start.ensures, row_inside c.requires.0 c.args.row (c.args.column + 1) c.requires.1.0 c.requires.1.1)
 
 pub pair_in-requires : goal.pair_in-requires
-pair_in-requires c =
-    (omega (arith, c.requires.0.geometry.longitude.sized.count_most, c.requires.1.1), rw part_length (omega (arith, inside (goal.at.pair_in-requires c).After-row_start-start)))
+pair_in-requires c = (
+  omega (arith, c.requires.0.geometry.longitude.sized.count_most, c.requires.1.1),
+  rw part_length
+      (omega (arith, inside (goal.at.pair_in-requires c).After-row_start-start)),
+)
 
 pub returns : goal.returns
 returns c =

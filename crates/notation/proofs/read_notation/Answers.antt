@@ -55,11 +55,15 @@ on_side c side e =
 
 pub returns-in-Positive : goal.returns-in-Positive
 returns-in-Positive c =
-    ap values (size_is (goal.at.returns-in-Positive c).After-size_of-size) ∙ sym (on_side (goal.at.returns-in-Positive c).After-letter_side _ c.in-Positive.is)
+    ap values (size_is (goal.at.returns-in-Positive c).After-size_of-size)
+    ∙ sym (on_side (goal.at.returns-in-Positive c).After-letter_side _ c.in-Positive.is)
 
 pub returns-in-Negative : goal.returns-in-Negative
 returns-in-Negative c =
-    ap values (minus_back w64 (size_is (goal.at.returns-in-Negative c).After-size_of-size) (size_small (goal.at.returns-in-Negative c).After-size_of-size)) ∙ sym (on_side (goal.at.returns-in-Negative c).After-letter_side _ c.in-Negative.is)
+    ap values
+    (minus_back w64 (size_is (goal.at.returns-in-Negative c).After-size_of-size)
+    (size_small (goal.at.returns-in-Negative c).After-size_of-size)) ∙ sym (on_side (goal.at.returns-in-Negative c).After-letter_side _
+    c.in-Negative.is)
 
 pub returns-in-Neither : goal.returns-in-Neither
 returns-in-Neither c = sym (on_side (goal.at.returns-in-Neither c).After-letter_side _ c.in-Neither.is)

@@ -20,13 +20,20 @@ total_is c = omega (arith, c.total_written-t.ensures, size_is (goal.at.After-tot
 letter_is : (c : After-letter_of-letter) → let s = c.args in
     c.letter_of-letter.result ≡ letter_written s.longitude s.nd
 letter_is c =
-    cc (c.letter_of-letter.ensures, c.is_written_below_zero.ensures, to_z-of_z c.ranges.nd, total_is (goal.at.After-letter_of-letter c).After-total_written-t)
+    cc (
+      c.letter_of-letter.ensures,
+      c.is_written_below_zero.ensures,
+      to_z-of_z c.ranges.nd,
+      total_is
+          (goal.at.After-letter_of-letter c).After-total_written-t,
+    )
 
 pub returns-then-axis_limit-size : goal.returns-then-axis_limit-size
 unfolding write_notation
 returns-then-axis_limit-size c =
     let s = c.args in
-    let k : within (degrees (axis_limit s.longitude)) s.nd ≡ false = omega (arith, lt-leb, size_is (goal.at.returns-then-axis_limit-size c).After-magnitude-size) in
+    let k : within (degrees (axis_limit s.longitude)) s.nd ≡ false = omega
+    (arith, lt-leb, size_is (goal.at.returns-then-axis_limit-size c).After-magnitude-size) in
     rw k
 
 pub returns : goal.returns
@@ -35,4 +42,5 @@ returns c =
     let s = c.args in
     let z = size_is (goal.at.returns c).After-magnitude-size in
     let k : within (degrees (axis_limit s.longitude)) s.nd ≡ true = omega (arith, le-leb) in
-    rw k (cc (c.notation_of.ensures, letter_is (goal.at.returns c).After-letter_of-letter, total_is (goal.at.returns c).After-total_written-t))
+    rw k
+    (cc (c.notation_of.ensures, letter_is (goal.at.returns c).After-letter_of-letter, total_is (goal.at.returns c).After-total_written-t))

@@ -14,7 +14,8 @@ use Rattle.rules.specs.Questions.{opened_of}
 use Rattle.rules.specs.Planes.{convertible, rest_with_kind}
 use Rattle.rules.proofs.Opening.{opened}
 use Rattle.rules.proofs.Lent.{two_parts, second_part_length}
-use Rattle.layouts.specs.Directions.{kind_in, corrections_in, converted_to, conversion_to, conversion_is}
+use Rattle.layouts.specs.Directions.{kind_in, corrections_in, converted_to, conversion_to}
+use Rattle.layouts.proofs.Directions.{conversion_is}
 use Rattle.planes.proofs.Places.{Fits, fits}
 use Rattle.planes.proofs.convert_to.Goals as goal
 use Rattle.planes.proofs.convert_to.Goals.{After-ask_all, After-layout_of-l, After-write_corrections, In-Separate}
@@ -48,7 +49,8 @@ passed c =
 pub layout_of-l-requires : goal.layout_of-l-requires
 layout_of-l-requires c = (fits _ c.args.image.now (length c.args.buffer.now) _ (passed c)).is_open
 
-laid : (c : After-layout_of-l) → convertible (kind_in (not c.args.in_planes)) c.args.image.now (length c.args.buffer.now) ≡ values c.layout_of-l.result
+laid : (c : After-layout_of-l)
+    → convertible (kind_in (not c.args.in_planes)) c.args.image.now (length c.args.buffer.now) ≡ values c.layout_of-l.result
 laid c = passed (goal.at.After-layout_of-l c).In-Separate ∙ ap values (sym c.layout_of-l.ensures)
 
 known : (c : After-layout_of-l) → Fits c.args.image.now c.layout_of-l.result (length c.args.buffer.now)
@@ -79,7 +81,8 @@ written c = corrections_in c.args.in_planes c.args.image.now c.layout_of-l.resul
 corrections : (c : After-write_corrections) → c.write_corrections.new.part ≡ written (goal.at.After-write_corrections c).After-layout_of-l
 corrections c = c.write_corrections.ensures
 
-corrections_long : (c : After-write_corrections) → let l = (goal.at.After-write_corrections c).After-layout_of-l in length (written l) ≡ part l
+corrections_long : (c : After-write_corrections)
+    → let l = (goal.at.After-write_corrections c).After-layout_of-l in length (written l) ≡ part l
 corrections_long c =
     ap length (sym (corrections c)) ∙ c.write_corrections.auto.part ∙ part_long (goal.at.After-write_corrections c).After-layout_of-l
 

@@ -12,7 +12,8 @@ use Rattle.planes.proofs.copy_bytes.Goals as goal
 one_more : (from to : List ℕ) (n : ℕ) → n < length from → length to ≡ length from → take n to ≡ take n from
     → take (n + 1) (set to n (get_or from n 0)) ≡ take (n + 1) from
 one_more from to n h e k =
-    rw (add-one, take-suc-set to n (get_or from n 0) (omega arith), take-suc from n 0 h) (ap (λ (l : List ℕ). l ++ (get_or from n 0 ∷ [])) k)
+    rw (add-one, take-suc-set to n (get_or from n 0) (omega arith), take-suc from n 0 h)
+    (ap (λ (l : List ℕ). l ++ (get_or from n 0 ∷ [])) k)
 
 pub loop-n-preserved : goal.loop-n-preserved
 loop-n-preserved c =

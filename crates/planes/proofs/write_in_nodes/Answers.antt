@@ -36,15 +36,21 @@ pub overflow_add-second : goal.overflow_add-second
 overflow_add-second c = omega (arith, second_inside (goal.at.overflow_add-second c).In-loop-n)
 
 pub copy_node-requires : goal.copy_node-requires
-copy_node-requires c =
-    (simp (length-take, length-drop) (omega arith), first_inside (goal.at.copy_node-requires c).In-loop-n, second_inside (goal.at.copy_node-requires c).In-loop-n)
+copy_node-requires c = (
+  simp (length-take, length-drop) (omega arith),
+  first_inside (goal.at.copy_node-requires c).In-loop-n,
+  second_inside
+      (goal.at.copy_node-requires c).In-loop-n,
+)
 
 pub loop-n-preserved : goal.loop-n-preserved
 loop-n-preserved c =
     let l = c.loop-n in (
       omega arith,
       c.nodes-1.given.1 ∙ l.invariant.1,
-      written_more 8 _ _ _ _ _ _ _ (node_long _ _ _ (first_inside (goal.at.loop-n-preserved c).In-loop-n) (second_inside (goal.at.loop-n-preserved c).In-loop-n)) (omega arith) c.copy_node.ensures refl
+      written_more 8 _ _ _ _ _ _ _
+          (node_long _ _ _ (first_inside (goal.at.loop-n-preserved c).In-loop-n) (second_inside (goal.at.loop-n-preserved c).In-loop-n))
+          (omega arith) c.copy_node.ensures refl
           l.invariant.2,
     )
 

@@ -21,7 +21,8 @@ half_long : (s : Start) → length (take (half s) s.args.planes.now) ≡ half s
 half_long s = length-take-le (half s) s.args.planes.now (omega arith)
 
 pub write_values-requires : goal.write_values-requires
-write_values-requires c = (c.requires.0, half_long (goal.at.write_values-requires c).Start ∙ half_is (goal.at.write_values-requires c).Start)
+write_values-requires c =
+    (c.requires.0, half_long (goal.at.write_values-requires c).Start ∙ half_is (goal.at.write_values-requires c).Start)
 
 left : (c : After-write_values) → c.write_values.new.values ≡ plane_bytes c.args.image.now c.args.p
 left c = c.write_values.ensures
@@ -33,13 +34,18 @@ pub write_values-requires-2 : goal.write_values-requires-2
 write_values-requires-2 c =
     let many = ap node_count c.requires.2 in
     let x = plane_bytes c.args.image.now c.args.p in
-    let long = second_part_length x c.args.planes.now (half (goal.at.write_values-requires-2 c).Start) (left_long (goal.at.write_values-requires-2 c).After-write_values) in
-    (c.requires.1, rw (left (goal.at.write_values-requires-2 c).After-write_values) (long ∙ omega (arith, half_is (goal.at.write_values-requires-2 c).Start, c.requires.3, many)))
+    let long = second_part_length x c.args.planes.now (half (goal.at.write_values-requires-2 c).Start)
+    (left_long (goal.at.write_values-requires-2 c).After-write_values) in (
+      c.requires.1,
+      rw (left (goal.at.write_values-requires-2 c).After-write_values) (long
+          ∙ omega (arith, half_is (goal.at.write_values-requires-2 c).Start, c.requires.3, many)),
+    )
 
 pub returns : goal.returns
 returns c =
     let b = c.args.image.now in
-    let both = two_parts (plane_bytes b c.args.p) (plane_bytes b c.args.q) c.args.planes.now (half (goal.at.returns c).Start) (left_long (goal.at.returns c).After-write_values) in
+    let both = two_parts (plane_bytes b c.args.p) (plane_bytes b c.args.q) c.args.planes.now (half (goal.at.returns c).Start)
+    (left_long (goal.at.returns c).After-write_values) in
     rw (left (goal.at.returns c).After-write_values) (rw c.write_values-2.ensures both)
 
 pub slice_bounds-write_values-end-2 : goal.slice_bounds-write_values-end-2

@@ -32,7 +32,8 @@ loop-n-preserved c =
     let l = c.loop-n in (
       omega arith,
       c.values-1.given.1 ∙ l.invariant.1,
-      written_more 4 _ _ _ _ _ _ _ (taken_length 4 _ _ (inside (goal.at.loop-n-preserved c).In-loop-n)) (omega arith) c.copy_four.ensures refl l.invariant.2,
+      written_more 4 _ _ _ _ _ _ _ (taken_length 4 _ _ (inside (goal.at.loop-n-preserved c).In-loop-n)) (omega arith) c.copy_four.ensures
+          refl l.invariant.2,
     )
 
 pub returns : goal.returns

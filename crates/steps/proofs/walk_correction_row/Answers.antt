@@ -17,7 +17,8 @@ passes c = c.correction_passes.ensures ∙ ap correction_passes c.correction_of-
 pub returns-then-not-correction_passes : goal.returns-then-not-correction_passes
 returns-then-not-correction_passes c =
     let l = c.loop-column in
-    walked_missed l.invariant.2 (omega arith) (sym (passes (goal.at.returns-then-not-correction_passes c).After-correction_passes) ∙ c.if-not-correction_passes.true)
+    walked_missed l.invariant.2 (omega arith) (sym (passes (goal.at.returns-then-not-correction_passes c).After-correction_passes)
+    ∙ c.if-not-correction_passes.true)
 
 pub with_corrections-found-requires : goal.with_corrections-found-requires
 with_corrections-found-requires c =

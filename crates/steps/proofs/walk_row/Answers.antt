@@ -17,7 +17,8 @@ passes c = c.node_passes.ensures ∙ ap node_passes c.node_of-here.ensures
 pub returns-then-not-node_passes : goal.returns-then-not-node_passes
 returns-then-not-node_passes c =
     let l = c.loop-column in
-    walked_missed l.invariant.2 (omega arith) (sym (passes (goal.at.returns-then-not-node_passes c).After-node_passes) ∙ c.if-not-node_passes.true)
+    walked_missed l.invariant.2 (omega arith) (sym (passes (goal.at.returns-then-not-node_passes c).After-node_passes)
+    ∙ c.if-not-node_passes.true)
 
 pub with_nodes-found-requires : goal.with_nodes-found-requires
 with_nodes-found-requires c =

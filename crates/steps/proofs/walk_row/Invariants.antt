@@ -10,7 +10,8 @@ abbrev pub invariant-loop-column : goal.invariant-loop-column
 invariant-loop-column l =
     (l.column ≤ l.columns)
     × (l.west ≡ node_of l.image l.row (l.column - 1))
-    × Walked (λ column. node_passes (node_of l.image l.row column)) (step_to with_nodes (node_of l.image l.south) (node_of l.image l.row)) l.initial.found l.column l.found
+    × Walked (λ column. node_passes (node_of l.image l.row column)) (step_to with_nodes (node_of l.image l.south) (node_of l.image l.row))
+    l.initial.found l.column l.found
 
 abbrev pub decreases-loop-column : goal.decreases-loop-column
 decreases-loop-column l = l.columns - l.column

@@ -14,7 +14,8 @@ use Rattle.steps.proofs.walk_values.Goals as goal
 use Rattle.steps.proofs.walk_values.Goals.{After-is_within, After-run_value, After-run_value-here}
 
 -- the value of this column, of this row and of the one to the south
-value : (c : After-run_value-here) → to_z w64 (of_z w64 c.run_value-here.result) ≡ run_value c.args.image.now c.args.row c.loop-column.column
+value : (c : After-run_value-here)
+    → to_z w64 (of_z w64 c.run_value-here.result) ≡ run_value c.args.image.now c.args.row c.loop-column.column
 value c = told w64 c.run_value-here.type_inv c.run_value-here.ensures
 
 southern : (c : After-run_value) → to_z w64 (of_z w64 c.run_value.result) ≡ run_value c.args.image.now c.args.south c.loop-column.column
@@ -28,7 +29,8 @@ passes c = let s = c.args in c.is_within.ensures ∙ ap (within s.limit) (value 
 pub returns-then-not-is_within : goal.returns-then-not-is_within
 returns-then-not-is_within c =
     let l = c.loop-column in
-    walked_missed l.invariant.2 (omega arith) (sym (passes (goal.at.returns-then-not-is_within c).After-is_within) ∙ c.if-not-is_within.true)
+    walked_missed l.invariant.2 (omega arith) (sym (passes (goal.at.returns-then-not-is_within c).After-is_within)
+    ∙ c.if-not-is_within.true)
 
 pub with_node-found-requires : goal.with_node-found-requires
 with_node-found-requires c =

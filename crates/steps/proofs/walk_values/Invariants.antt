@@ -11,7 +11,8 @@ abbrev pub invariant-loop-column : goal.invariant-loop-column
 invariant-loop-column l =
     (l.column ≤ l.columns)
     × (l.west ≡ run_value l.image l.row (l.column - 1))
-    × Walked (λ column. within l.limit (run_value l.image l.row column)) (step_to with_node (run_value l.image l.south) (run_value l.image l.row))
+    × Walked (λ column. within l.limit (run_value l.image l.row column))
+    (step_to with_node (run_value l.image l.south) (run_value l.image l.row))
     l.initial.found l.column l.found
 
 abbrev pub decreases-loop-column : goal.decreases-loop-column

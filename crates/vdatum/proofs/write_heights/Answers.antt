@@ -29,7 +29,8 @@ loop-n-preserved c =
     let l = c.loop-n in (
       omega arith,
       omega arith,
-      written_more 4 _ _ _ _ _ _ _ refl (omega arith) c.write_i32.ensures (ap bytes_of (height_is (goal.at.loop-n-preserved c).After-fit_height-height)) l.invariant.2,
+      written_more 4 _ _ _ _ _ _ _ refl (omega arith) c.write_i32.ensures
+          (ap bytes_of (height_is (goal.at.loop-n-preserved c).After-fit_height-height)) l.invariant.2,
     )
 
 pub returns : goal.returns

@@ -18,14 +18,21 @@ pub overflow_add-bytes_of-then-backs_pass : goal.overflow_add-bytes_of-then-back
 overflow_add-bytes_of-then-backs_pass c =
     let h = and_left (of_both question3 c.args.t) _ c.requires in
     let g = c.args.t.corrections.geometry in
-    omega (arith, back (goal.at.overflow_add-bytes_of-then-backs_pass c).Then-backs_pass, c.bytes_of.ensures.1, nodes_most g (and_left _ _ h), nodes_most _ (and_right (question3 g) _ h))
+    omega (
+      arith,
+      back (goal.at.overflow_add-bytes_of-then-backs_pass c).Then-backs_pass,
+      c.bytes_of.ensures.1,
+      nodes_most g (and_left _ _ h),
+      nodes_most _ (and_right (question3 g) _ h),
+    )
 
 pub returns-then-backs_pass : goal.returns-then-backs_pass
 unfolding all_backs_pass
 returns-then-backs_pass c =
     let s = c.args in
     and_next c.backs_pass.ensures c.if-backs_pass.true
-    (c.back_passes.ensures ∙ (λ i. back_passes s.d.back (c.bytes_of.ensures.0 i + 36 + back (goal.at.returns-then-backs_pass c).Then-backs_pass i) s.size))
+    (c.back_passes.ensures
+    ∙ (λ i. back_passes s.d.back (c.bytes_of.ensures.0 i + 36 + back (goal.at.returns-then-backs_pass c).Then-backs_pass i) s.size))
 
 pub returns-else-backs_pass : goal.returns-else-backs_pass
 unfolding all_backs_pass

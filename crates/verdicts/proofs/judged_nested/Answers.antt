@@ -39,7 +39,9 @@ returns-then-not-all_backs_pass c =
 -- each grid passes 3 to 5, whichever is asked: of that it is said in the results
 pub is_aligned-requires : goal.is_aligned-requires
 is_aligned-requires c =
-    let all = all_pass_lem c.args.d c.args.t (sym c.all_counts_pass.ensures ∙ c.if-not-all_counts_pass.false) (sym c.all_spacings_pass.ensures ∙ c.if-not-all_spacings_pass.false) (sym c.all_bounds_pass.ensures ∙ c.if-not-all_bounds_pass.false) in
+    let all = all_pass_lem c.args.d c.args.t (sym c.all_counts_pass.ensures
+    ∙ c.if-not-all_counts_pass.false) (sym c.all_spacings_pass.ensures ∙ c.if-not-all_spacings_pass.false) (sym c.all_bounds_pass.ensures
+    ∙ c.if-not-all_bounds_pass.false) in
     search (all.0.0, all.1)
 
 pub returns-then-not-is_aligned : goal.returns-then-not-is_aligned
