@@ -46,9 +46,9 @@ module _ (b : List ℕ) (l : Layout) where
   abbrev g : Geometry
   g = l.latitude.geometry
 
-  all_pass : l.height.geometry ≡ g → every (rows g) (row_passes node_passes (node_at b l) (columns g)) ≡ all_pass (grid_of b l)
+  all_pass_lem : l.height.geometry ≡ g → every (rows g) (row_passes node_passes (node_at b l) (columns g)) ≡ all_pass (grid_of b l)
   unfolding all_pass all_within node_passes
-  all_pass one =
+  all_pass_lem one =
       let latitude = inside b correction_limit l.latitude in
       let longitude = inside b correction_limit l.longitude in
       let height = inside b quasi_geoid_limit l.height in
@@ -63,7 +63,7 @@ module _ (b : List ℕ) (l : Layout) where
 
   pub grid_found : l.height.geometry ≡ g → over_rows node_passes with_nodes (node_at b l) g no_findings ≡ grid_walk (grid_of b l)
   unfolding walk_over grid_walk
-  grid_found one = rw (all_pass one, found_all b l one)
+  grid_found one = rw (all_pass_lem one, found_all b l one)
 
 -- A walk for the heights and one for both corrections: question 9 stops them where it stops one.
 in_turn_lem : (s t u : Bool) (x y z : Steps)

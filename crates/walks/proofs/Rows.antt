@@ -33,8 +33,8 @@ abbrev pub over_rows : {A N : Type 0} → (N → Bool) → (A → (here west sou
 over_rows passes add nodes g = walk_over (row_passes passes nodes (columns g)) (row_steps add nodes (columns g)) (rows g)
 
 -- The node of a row and a column, in the three planes, and its corrections.
-abbrev pub node_at_lem : List ℕ → Layout → (row column : ℕ) → Node
-node_at_lem b l row column =
+abbrev pub node_at : List ℕ → Layout → (row column : ℕ) → Node
+node_at b l row column =
     record {
       latitude = plane b l.latitude row column;
       longitude = plane b l.longitude row column;
@@ -49,7 +49,7 @@ value_at : (b : List ℕ) (p : Plane) (row column : ℕ) → run_value b (run_at
 unfolding run_value plane
 value_at b p row column = ap (i32_at b) (omega arith)
 
-node_at_lem : (b : List ℕ) (l : Layout) (row column : ℕ) → node_of b (row_at l row) column ≡ node_at_lem b l row column
+node_at_lem : (b : List ℕ) (l : Layout) (row column : ℕ) → node_of b (row_at l row) column ≡ node_at b l row column
 unfolding node_of
 node_at_lem b l row column = λ i. record {
   latitude = value_at b l.latitude row column i;
@@ -68,7 +68,7 @@ pub values_walked : (b : List ℕ) (limit : ℕ) (p : Plane) (south row : ℕ)
 values_walked b limit p south row = λ i. along_row (within limit) with_node (λ n. value_at b p south n i) (λ n. value_at b p row n i)
 
 pub nodes_walked : (b : List ℕ) (l : Layout) (south row : ℕ)
-    → row_walk b (row_at l south) (row_at l row) ≡ along_row node_passes with_nodes (node_at_lem b l south) (node_at_lem b l row)
+    → row_walk b (row_at l south) (row_at l row) ≡ along_row node_passes with_nodes (node_at b l south) (node_at b l row)
 nodes_walked b l south row = λ i. along_row node_passes with_nodes (λ n. node_at_lem b l south n i) (λ n. node_at_lem b l row n i)
 
 pub corrections_walked : (b : List ℕ) (p q : Plane) (south row : ℕ)

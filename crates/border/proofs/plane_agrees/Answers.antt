@@ -14,9 +14,8 @@ use Rattle.returning.specs.Sides.{sides_agree}
 use Rattle.returning.proofs.Sides.{rows_agree_lem, columns_agree_lem}
 use Rattle.border.specs.Lines.{rows_of, columns_of, lines_agree}
 use Rattle.border.proofs.PlaneLines.{row_value, column_value, rows_inside, columns_inside}
-use borrow.Author.Rules.{rules}
-use Rattle.border.proofs.plane_agrees.Statement.{statement}
-use Rattle.border.proofs.plane_agrees.Tie as tie
+use Rattle.border.proofs.plane_agrees.Goals as goal
+use Rattle.border.proofs.plane_agrees.Goals.{After-sides_agree, After-sides_agree-then-sides_agree}
 
 -- question 20 of each axis
 axes : (c d : Geometry) → question20 c d ≡ true
@@ -24,17 +23,17 @@ axes : (c d : Geometry) → question20 c d ≡ true
 unfolding question20
 axes c d h = let latitude = axis_aligned c.latitude d.latitude in (and_left latitude _ h, and_right latitude _ h)
 
-sides_agree_requires : tie.Need-sides-agree-requires
-sides_agree_requires c κs =
-    let p = c.before.before.before.requires in
+pub sides_agree-requires : goal.sides_agree-requires
+sides_agree-requires c =
+    let p = c.requires in
     let q = axes _ _ p.2 in
-    rw (c.before.rows_of_lem.ensures, c.rows-of2.ensures) (rows_inside p.0, rows_inside p.1, q.0, q.1)
+    rw (c.rows_of.ensures, c.rows_of-2.ensures) (rows_inside p.0, rows_inside p.1, q.0, q.1)
 
-sides_agree_requires_2 : tie.Need-sides-agree-requires-2
-sides_agree_requires_2 c κs =
-    let p = c.before.before.before.before.before.before.before.requires in
+pub sides_agree-requires-then-sides_agree : goal.sides_agree-requires-then-sides_agree
+sides_agree-requires-then-sides_agree c =
+    let p = c.requires in
     let q = axes _ _ p.2 in
-    rw (c.before.columns_of.ensures, c.columns-of2.ensures) (columns_inside p.0, columns_inside p.1, q.1, q.0)
+    rw (c.columns_of.ensures, c.columns_of-then-sides_agree.ensures) (columns_inside p.0, columns_inside p.1, q.1, q.0)
 
 -- the sides by line are those by row and column
 module _ (b : List ℕ) (c d : Plane) (o : GeometryPasses c.geometry) (q : question20 c.geometry d.geometry ≡ true) where
@@ -55,41 +54,24 @@ module _ (b : List ℕ) (c d : Plane) (o : GeometryPasses c.geometry) (q : quest
       ∙ sym (columns_agree_lem o h q (plane b c) (plane b d))
 
 -- the rows' answer, and the columns'
-rows : (c : tie.After-sides-agree) → let s = c.before.before.before.before.args in
+rows : (c : After-sides_agree) → let s = c.args in
     let b = s.image.now in
-    c.sides-agree.result ≡ rows_agree s.coarse.geometry s.dense.geometry (plane b s.coarse) (plane b s.dense)
+    c.sides_agree.result ≡ rows_agree s.coarse.geometry s.dense.geometry (plane b s.coarse) (plane b s.dense)
 rows c =
-    let r = c.before in
-    let s = r.before.before.before in
-    rw (r.before.rows_of_lem.ensures, r.rows-of2.ensures) at c.sides-agree.ensures
-    ∙ by_rows _ s.args.coarse s.args.dense s.requires.0.geometry s.requires.2
+    rw (c.rows_of.ensures, c.rows_of-2.ensures) at c.sides_agree.ensures
+    ∙ by_rows _ c.args.coarse c.args.dense c.requires.0.geometry c.requires.2
 
-columns : (c : tie.After-sides-agree2) → let s = c.before.before.before.before.before.before.before.before.args in
+columns : (c : After-sides_agree-then-sides_agree) → let s = c.args in
     let b = s.image.now in
-    c.sides-agree2.result ≡ columns_agree s.coarse.geometry s.dense.geometry (plane b s.coarse) (plane b s.dense)
+    c.sides_agree-then-sides_agree.result ≡ columns_agree s.coarse.geometry s.dense.geometry (plane b s.coarse) (plane b s.dense)
 columns c =
-    let r = c.before in
-    let s = r.before.before.before.before.before.before.before in
-    rw (r.before.columns_of.ensures, r.columns-of2.ensures) at c.sides-agree2.ensures
-    ∙ by_columns _ s.args.coarse s.args.dense s.requires.0.geometry s.requires.2
+    rw (c.columns_of.ensures, c.columns_of-then-sides_agree.ensures) at c.sides_agree-then-sides_agree.ensures
+    ∙ by_columns _ c.args.coarse c.args.dense c.requires.0.geometry c.requires.2
 
-returns : tie.Need-returns
+pub returns-then-sides_agree : goal.returns-then-sides_agree
 unfolding border_agrees
-returns c = let t = c.before.before.before in and_next (rows t.before) t.if1.true (columns c)
+returns-then-sides_agree c = and_next (rows (goal.at.returns-then-sides_agree c).After-sides_agree) c.if-sides_agree.true (columns c)
 
-returns_2 : tie.Need-returns-2
+pub returns-else-sides_agree : goal.returns-else-sides_agree
 unfolding border_agrees
-returns_2 c = and_stop _ (rows c.before) c.if1.false
-
-pub plane_agrees_spec : {M : Type 1} → statement M
-plane_agrees_spec =
-    tie.close
-    (tie.spec
-    (λ c κs. search rules)
-    (λ c κs. search rules)
-    sides_agree_requires
-    (λ c κs. search rules)
-    (λ c κs. search rules)
-    sides_agree_requires_2
-    returns
-    returns_2)
+returns-else-sides_agree c = and_stop _ (rows (goal.at.returns-else-sides_agree c).After-sides_agree) c.if-sides_agree.false

@@ -8,14 +8,12 @@ use mir.Syntax.{w64}
 use mir.Val.{SFits, to_z, of_z}
 use mir.Facts.{to_z-of_z}
 use mir.ValLaws.{to_z_pos}
-use borrow.Author.Rules.{rules}
 use Rattle.integers.specs.Distance.{size, abs-mul-≤}
 use Rattle.integers.specs.Machine.{zarith, sum_fits, sum_back}
 use Rattle.rules.specs.Units.{spacing_most}
 use Rattle.steps.specs.Walk.{Narrow}
 use Rattle.returning.specs.Sides.{node_close}
-use Rattle.border.proofs.is_close.Statement.{statement}
-use Rattle.border.proofs.is_close.Tie as tie
+use Rattle.border.proofs.is_close.Goals as goal
 
 -- such a product as the machine computes it: what it is, that it is small and fits, and what is read back
 abbrev product : ℤ → ℕ → ℤ
@@ -34,26 +32,17 @@ module _ (z : ℤ) (n : ℕ) (h : Narrow z) (k : n ≤ spacing_most) where
   product_back : to_z w64 (of_z w64 (product z n)) ≡ z *ℤ pos n
   product_back = to_z-of_z product_fits ∙ product_is
 
-mul_exact : tie.Need-overflow-mul-exact
-mul_exact c = product_fits c.args.e (c.args.spacing - c.args.part) c.requires.1 (omega arith)
-
-mul_exact_2 : tie.Need-overflow-mul-exact-2
-mul_exact_2 c = product_fits c.args.next c.args.part c.requires.2 (omega arith)
-
-add_exact : tie.Need-overflow-add-exact
-add_exact c =
+pub overflow_add-exact : goal.overflow_add-exact
+overflow_add-exact c =
     let s = c.args in
     sum_fits (product s.e (s.spacing - s.part)) (product s.next s.part)
     (product_small s.e (s.spacing - s.part) c.requires.1 (omega arith)) (product_small s.next s.part c.requires.2 (omega arith))
 
-mul_distance : tie.Need-overflow-mul-distance
-mul_distance c = product_fits c.args.f c.args.spacing c.requires.0 (omega arith)
-
-returns : tie.Need-returns
+pub returns : goal.returns
 unfolding node_close
 returns c =
-    let p = c.before.requires in
-    let s = c.before.args in
+    let p = c.requires in
+    let s = c.args in
     let rest = s.spacing - s.part in
     let value = product_back s.f s.spacing p.0 (omega arith) in
     let exact =
@@ -61,18 +50,3 @@ returns c =
     (product_small s.e rest p.1 (omega arith)) (product_small s.next s.part p.2 (omega arith))
     ∙ (λ i. product_is s.e rest p.1 (omega arith) i +ℤ product_is s.next s.part p.2 (omega arith) i) in
     ap (λ (n : ℕ). leb n s.spacing) (c.distance.ensures ∙ (λ i. nat_abs (value i -ℤ exact i)))
-
-pub is_close_spec : {M : Type 1} → statement M
-is_close_spec =
-    tie.close
-    (tie.spec
-    (λ c. search rules)
-    (λ c. search rules)
-    mul_exact
-    (λ c. search rules)
-    mul_exact_2
-    add_exact
-    (λ c. search rules)
-    mul_distance
-    (λ c κs. search rules)
-    returns)
