@@ -22,7 +22,8 @@ use Rattle.rules.proofs.Answers.{asked, followed}
 use Rattle.rules.proofs.Limits.{corners_within}
 use Rattle.lookup.specs.declared.HeldCell.{HeldCell}
 use Rattle.lookup.specs.Held.{Holds, held_at, height_in, value_in, PointFound, point_found, node_lookup}
-use Rattle.grids.specs.Grids.{correction_cell, correction_cell_for, height_cell, corrections_between, height_between, grids_lookup, height_on}
+use Rattle.grids.specs.Grids.{correction_cell, correction_cell_for, height_cell, corrections_between, height_between, grids_lookup}
+use Rattle.grids.specs.Grids.{height_on}
 use Rattle.grids.specs.Grids.{height_on_or_none}
 use Rattle.lookup.proofs.Covering.{bounded_around, itself_serves}
 use Rattle.lookup.proofs.Found.{between_within, cell_holds, height_from, height_in_within}
@@ -87,8 +88,8 @@ in_order true false u a b f h pair = refl
 in_order false t u a b f h pair = refl
 
 pub grids_asked : (g : Grid) (q : Point) → g.separate ≡ true → grids_lookup g q ≡ point_lookup (bounded_source g) q
-unfolding grids_lookup correction_cell_for correction_cell height_cell point_lookup correction_grid_lookup height_grid_lookup corrections_pass
-    heights_pass value_at value_in
+unfolding grids_lookup correction_cell_for correction_cell height_cell point_lookup correction_grid_lookup height_grid_lookup
+    corrections_pass heights_pass value_at value_in
 grids_asked g q two =
     let k = grid_for g q in
     let c = k.corrections in

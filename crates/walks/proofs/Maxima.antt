@@ -16,7 +16,8 @@ use Rattle.rules.specs.Answers.{values, ask}
 use Rattle.rules.specs.Image.{plane, grid_of, rows, columns}
 use Rattle.rules.specs.Check.{all_within, largest, step_north, step_east, steps_of, findings_of}
 use Rattle.rules.proofs.Largest.{largest_none, largest_steps}
-use Rattle.steps.specs.Walk.{no_steps, no_findings, no_correction_steps, with_node, with_nodes, with_corrections, fold_up_to, step_to, walk_over}
+use Rattle.steps.specs.Walk.{no_steps, no_findings, no_correction_steps, with_node, with_nodes, with_corrections, fold_up_to, step_to}
+use Rattle.steps.specs.Walk.{walk_over}
 use Rattle.walks.specs.Rows.{plane_walk}
 use Rattle.walks.proofs.Rows.{row_steps, over_rows, node_at, correction_at}
 

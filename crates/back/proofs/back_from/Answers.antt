@@ -27,9 +27,11 @@ looked : (c : After-look_up) → point_lookup (source (goal.at.After-look_up c).
 looked c = sym c.look_up.ensures
 
 found : (c : In-Values) → let v = c.in-Values.v in
-    ((source (goal.at.In-Values c).Start).corrections c.args.q ≡ values v.correction) × ((source (goal.at.In-Values c).Start).height c.args.q ≡ values (some v.height))
+    ((source (goal.at.In-Values c).Start).corrections c.args.q ≡ values v.correction) ×
+    ((source (goal.at.In-Values c).Start).height c.args.q ≡ values (some v.height))
 found c =
-    both_found (source (goal.at.In-Values c).Start) c.args.q _ (looked (goal.at.In-Values c).After-look_up ∙ ap point_lookup_of c.in-Values.is)
+    both_found (source (goal.at.In-Values c).Start) c.args.q _ (looked (goal.at.In-Values c).After-look_up
+    ∙ ap point_lookup_of c.in-Values.is)
 
 -- the height found is read back as it is
 read : (c : After-struct_told-1) → let z = c.in-Values.v.height in to_z w64 (of_z w64 z) ≡ z
@@ -48,8 +50,11 @@ pub returns-in-Values : goal.returns-in-Values
 unfolding back
 returns-in-Values c =
     rw ((found (goal.at.returns-in-Values c).In-Values).0, (found (goal.at.returns-in-Values c).In-Values).1)
-    (ap (λ (a : Position). values (with_height a)) (rw (to_z-of_z c.ranges.height, read (goal.at.returns-in-Values c).After-struct_told-1) at c.added.ensures))
+    (ap (λ (a : Position). values (with_height a))
+    (rw (to_z-of_z c.ranges.height, read (goal.at.returns-in-Values c).After-struct_told-1) at c.added.ensures))
 
 pub returns-in-Refused : goal.returns-in-Refused
 returns-in-Refused c =
-    sym (both_refused (source (goal.at.returns-in-Refused c).Start) c.args.q c.args.height _ (looked (goal.at.returns-in-Refused c).After-look_up ∙ ap point_lookup_of c.in-Refused.is))
+    sym
+    (both_refused (source (goal.at.returns-in-Refused c).Start) c.args.q c.args.height _
+    (looked (goal.at.returns-in-Refused c).After-look_up ∙ ap point_lookup_of c.in-Refused.is))

@@ -38,7 +38,8 @@ pub is_close-requires : goal.is_close-requires
 is_close-requires c =
     let narrow = value_narrow _ c.type_inv.image in
     let f : Narrow (to_z w64 (of_z w64 c.args.f)) = rw (to_z-of_z c.ranges.f) c.requires.2 in
-    let first : Narrow (to_z w64 (of_z w64 c.run_value-e.result)) = rw (value (goal.at.is_close-requires c).After-run_value-e) (narrow _ _) in
+    let first : Narrow (to_z w64 (of_z w64 c.run_value-e.result)) = rw (value (goal.at.is_close-requires c).After-run_value-e) (narrow _ _)
+    in
     let second : Narrow (to_z w64 (of_z w64 c.run_value-next.result)) = rw (next c) (narrow _ _) in
     let part = ap (λ (p : AxisPlace). p.part) c.locate-place.ensures in
     let most : c.locate-place.result.part ≤ c.args.coarse.spacing = rw part (part_most _ _ c.requires.0.sized c.requires.3) in
@@ -49,7 +50,9 @@ unfolding node_agrees
 returns c =
     let place = c.locate-place.ensures in
     c.is_close.ensures
-    ∙ (λ i. node_close (to_z-of_z c.ranges.f i) (value (goal.at.returns c).After-run_value-e i) (next (goal.at.returns c).After-run_value-next i) (place i).part c.args.coarse.spacing)
+    ∙
+    (λ i. node_close (to_z-of_z c.ranges.f i) (value (goal.at.returns c).After-run_value-e i)
+    (next (goal.at.returns c).After-run_value-next i) (place i).part c.args.coarse.spacing)
 
 pub run_value-e-requires : goal.run_value-e-requires
 run_value-e-requires c = c.requires.1 _ (omega (arith, on_line_lem c))

@@ -36,7 +36,8 @@ first c =
 place : (c : In-loop-i) → let s = c.args in
     c.offset_on-start.result + c.loop-i.i * s.dense.spacing ≤ (s.coarse.count - 1) * s.coarse.spacing
 place c =
-    omega (arith, first (goal.at.In-loop-i c).After-offset_on-start, node_most c.args.coarse c.args.dense c.requires.2 c.loop-i.i (omega arith))
+    omega
+    (arith, first (goal.at.In-loop-i c).After-offset_on-start, node_most c.args.coarse c.args.dense c.requires.2 c.loop-i.i (omega arith))
 
 -- what the test of this node answered
 answered : (c : After-node_agrees) → let s = c.args in
@@ -57,11 +58,15 @@ node_agrees-requires c =
 pub returns-then-not-node_agrees : goal.returns-then-not-node_agrees
 unfolding side_agrees
 returns-then-not-node_agrees c =
-    sym (every_missed _ _ c.loop-i.i (omega arith) (sym (answered (goal.at.returns-then-not-node_agrees c).After-node_agrees) ∙ c.if-not-node_agrees.true))
+    sym (every_missed _ _ c.loop-i.i (omega arith) (sym (answered (goal.at.returns-then-not-node_agrees c).After-node_agrees)
+    ∙ c.if-not-node_agrees.true))
 
 pub loop-i-preserved : goal.loop-i-preserved
-loop-i-preserved c =
-    (omega arith, every_more _ _ c.loop-i.invariant.1 (sym (answered (goal.at.loop-i-preserved c).After-node_agrees) ∙ c.if-not-node_agrees.false))
+loop-i-preserved c = (
+  omega arith,
+  every_more _ _ c.loop-i.invariant.1 (sym (answered (goal.at.loop-i-preserved c).After-node_agrees)
+      ∙ c.if-not-node_agrees.false),
+)
 
 pub returns : goal.returns
 unfolding side_agrees

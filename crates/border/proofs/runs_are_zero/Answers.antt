@@ -23,21 +23,28 @@ both : (c : After-is_within-in-loop-node) → let s = c.args in
     c.is_within-in-loop-node.result ≡ test s.image.now s.first s.last c.loop-node.node
 both c =
     let v = c.run_value-in-loop-node in
-    and_next (one (goal.at.After-is_within-in-loop-node c).After-is_within) (c.if-not-is_within.false) (rw (told w64 v.type_inv v.ensures) at c.is_within-in-loop-node.ensures)
+    and_next (one (goal.at.After-is_within-in-loop-node c).After-is_within) (c.if-not-is_within.false)
+    (rw (told w64 v.type_inv v.ensures) at c.is_within-in-loop-node.ensures)
 
 pub returns-then-not-is_within : goal.returns-then-not-is_within
 unfolding both_zero
 returns-then-not-is_within c =
-    sym (every_missed _ _ c.loop-node.node (omega arith) (sym (and_stop _ (one (goal.at.returns-then-not-is_within c).After-is_within) (c.if-not-is_within.true))))
+    sym
+    (every_missed _ _ c.loop-node.node (omega arith)
+    (sym (and_stop _ (one (goal.at.returns-then-not-is_within c).After-is_within) (c.if-not-is_within.true))))
 
 pub returns-then-not-is_within-2 : goal.returns-then-not-is_within-2
 unfolding both_zero
 returns-then-not-is_within-2 c =
-    sym (every_missed _ _ c.loop-node.node (omega arith) (sym (both (goal.at.returns-then-not-is_within-2 c).After-is_within-in-loop-node) ∙ c.if-not-is_within-2.true))
+    sym (every_missed _ _ c.loop-node.node (omega arith) (sym (both (goal.at.returns-then-not-is_within-2 c).After-is_within-in-loop-node)
+    ∙ c.if-not-is_within-2.true))
 
 pub loop-node-preserved : goal.loop-node-preserved
-loop-node-preserved c =
-    (omega arith, every_more _ _ c.loop-node.invariant.1 (sym (both (goal.at.loop-node-preserved c).After-is_within-in-loop-node) ∙ c.if-not-is_within-2.false))
+loop-node-preserved c = (
+  omega arith,
+  every_more _ _ c.loop-node.invariant.1 (sym (both (goal.at.loop-node-preserved c).After-is_within-in-loop-node)
+      ∙ c.if-not-is_within-2.false),
+)
 
 pub returns : goal.returns
 unfolding both_zero

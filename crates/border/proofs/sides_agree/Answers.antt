@@ -19,8 +19,11 @@ line_of-requires c =
     (c.requires.0.across, rw (reads_back w64 _ c.type_inv.a.0.1) (across (goal.at.line_of-requires c).Start).start_on)
 
 pub line_of-requires-then-side_agrees : goal.line_of-requires-then-side_agrees
-line_of-requires-then-side_agrees c =
-    (c.requires.0.across, rw (told w64 c.far_bound.type_inv c.far_bound.ensures) (across (goal.at.line_of-requires-then-side_agrees c).Start).far_on)
+line_of-requires-then-side_agrees c = (
+  c.requires.0.across,
+  rw (told w64 c.far_bound.type_inv c.far_bound.ensures)
+      (across (goal.at.line_of-requires-then-side_agrees c).Start).far_on,
+)
 
 -- the coarse line of each side
 start : (c : After-line_of) → let s = c.args in
@@ -49,6 +52,7 @@ side_agrees-requires-then-side_agrees c =
       p.0,
       p.1,
       p.3,
-      rw (far (goal.at.side_agrees-requires-then-side_agrees c).After-line_of-then-side_agrees) (line_below _ _ p.0.across.sized (across (goal.at.side_agrees-requires-then-side_agrees c).Start).far_on),
+      rw (far (goal.at.side_agrees-requires-then-side_agrees c).After-line_of-then-side_agrees)
+          (line_below _ _ p.0.across.sized (across (goal.at.side_agrees-requires-then-side_agrees c).Start).far_on),
       omega (arith, p.1.across.sized.count_least),
     )

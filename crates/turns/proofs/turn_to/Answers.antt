@@ -16,13 +16,15 @@ unfolding turn_of
 returns-then-not-in_bounds c = rw (sym c.in_bounds.ensures ∙ c.if-not-in_bounds.true)
 
 pub is_settled-requires : goal.is_settled-requires
-is_settled-requires c = let q = point_within c.args.bounds c.args.q c.requires.geometry (bounds (goal.at.is_settled-requires c).Else-not-in_bounds) in
+is_settled-requires c =
+    let q = point_within c.args.bounds c.args.q c.requires.geometry (bounds (goal.at.is_settled-requires c).Else-not-in_bounds) in
     let r = point_within c.args.bounds c.args.r c.requires.geometry c.requires.point in
     (reached q, reached r)
 
 pub returns-then-is_settled : goal.returns-then-is_settled
 unfolding turn_of
-returns-then-is_settled c = rw (bounds (goal.at.returns-then-is_settled c).Else-not-in_bounds, sym c.is_settled.ensures ∙ c.if-is_settled.true)
+returns-then-is_settled c =
+    rw (bounds (goal.at.returns-then-is_settled c).Else-not-in_bounds, sym c.is_settled.ensures ∙ c.if-is_settled.true)
 
 pub returns : goal.returns
 unfolding turn_of

@@ -21,7 +21,8 @@ pub walk_correction_row-requires : goal.walk_correction_row-requires
 walk_correction_row-requires c =
     let p = c.requires in (
       omega (arith, p.latitude_inside.geometry.longitude.sized.count_least),
-      rw c.correction_row_at-below.ensures (corrections_inside p c.loop-row.south (below (goal.at.walk_correction_row-requires c).At-loop-row (omega arith))),
+      rw c.correction_row_at-below.ensures
+          (corrections_inside p c.loop-row.south (below (goal.at.walk_correction_row-requires c).At-loop-row (omega arith))),
       rw c.correction_row_at-here.ensures (corrections_inside p c.loop-row.row (omega arith)),
     )
 
@@ -39,13 +40,15 @@ walked c =
 
 pub returns-in-Beyond : goal.returns-in-Beyond
 returns-in-Beyond c =
-    let e = stopped _ _ _ _ (sym (walked (goal.at.returns-in-Beyond c).After-walk_correction_row) ∙ ap corrections_walked_of c.in-Beyond.is) in
+    let e = stopped _ _ _ _ (sym (walked (goal.at.returns-in-Beyond c).After-walk_correction_row)
+    ∙ ap corrections_walked_of c.in-Beyond.is) in
     walked_missed c.loop-row.invariant.2 (omega arith) e ∙ corrections_found _ _ _ _
 
 pub loop-row-preserved : goal.loop-row-preserved
 loop-row-preserved c =
     let l = c.loop-row in
-    let h = came_through _ _ _ _ (sym (walked (goal.at.loop-row-preserved c).After-walk_correction_row) ∙ ap corrections_walked_of c.in-Largest.is) in
+    let h = came_through _ _ _ _ (sym (walked (goal.at.loop-row-preserved c).After-walk_correction_row)
+    ∙ ap corrections_walked_of c.in-Largest.is) in
     (omega arith, omega arith, walked_more l.invariant.2 h.0 (sym h.1))
 
 pub loop-row-init : goal.loop-row-init

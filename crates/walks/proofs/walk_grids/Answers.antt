@@ -27,16 +27,32 @@ corrections c = sym c.walk_corrections.ensures
 heights_through : (c : In-Largest) → let g = grid (goal.at.In-Largest c).Start in
     grid_walk g ≡ in_turn (values c.in-Largest.height) (corrections_walk g.corrections g.latitude g.longitude)
 heights_through c =
-    rw (grids_found (grid (goal.at.In-Largest c).Start), heights (goal.at.In-Largest c).After-walk_plane ∙ ap value_walked_of c.in-Largest.is)
+    rw (
+      grids_found (grid (goal.at.In-Largest c).Start),
+      heights (goal.at.In-Largest c).After-walk_plane
+          ∙ ap value_walked_of c.in-Largest.is,
+    )
 
 pub returns-in_default : goal.returns-in_default
 returns-in_default c =
-    rw (grids_found (grid (goal.at.returns-in_default c).Start), heights (goal.at.returns-in_default c).After-walk_plane ∙ ap value_walked_of c.in_default.is)
+    rw (
+      grids_found (grid (goal.at.returns-in_default c).Start),
+      heights (goal.at.returns-in_default c).After-walk_plane
+          ∙ ap value_walked_of c.in_default.is,
+    )
 
 pub returns-in_default-walk_corrections : goal.returns-in_default-walk_corrections
 returns-in_default-walk_corrections c =
-    rw (heights_through (goal.at.returns-in_default-walk_corrections c).In-Largest, corrections (goal.at.returns-in_default-walk_corrections c).After-walk_corrections ∙ ap corrections_walked_of c.in_default-walk_corrections.is)
+    rw (
+      heights_through (goal.at.returns-in_default-walk_corrections c).In-Largest,
+      corrections
+          (goal.at.returns-in_default-walk_corrections c).After-walk_corrections ∙ ap corrections_walked_of c.in_default-walk_corrections.is,
+    )
 
 pub returns : goal.returns
 returns c =
-    rw (heights_through (goal.at.returns c).In-Largest, corrections (goal.at.returns c).After-walk_corrections ∙ ap corrections_walked_of c.in-Largest-walk_corrections.is)
+    rw (
+      heights_through (goal.at.returns c).In-Largest,
+      corrections (goal.at.returns c).After-walk_corrections
+          ∙ ap corrections_walked_of c.in-Largest-walk_corrections.is,
+    )
