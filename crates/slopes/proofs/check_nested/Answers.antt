@@ -8,13 +8,15 @@ use Rattle.steps.specs.Walk.{corrections_walked_of}
 use Rattle.slopes.specs.Slopes.{slopes_pass}
 use Rattle.slopes.proofs.Asking.{nested_left, found_small, dense_walk, DenseWalked, dense_walked, dense_stopped, layout_passes}
 use Rattle.slopes.proofs.check_nested.Goals as goal
-use Rattle.slopes.proofs.check_nested.Goals.{After-nested_slopes_pass, After-walk_corrections, Else-not-nested_slopes_pass, In-Largest, Start}
+use Rattle.slopes.proofs.check_nested.Goals.{After-nested_slopes_pass, After-walk_corrections, Else-not-nested_slopes_pass, In-Largest}
+use Rattle.slopes.proofs.check_nested.Goals.{Start}
 
 abbrev grid : Start → Grid
 grid s = grid_of s.args.image.now s.args.l
 
 -- what the walk found, in terms of the grid
-walked : (c : After-walk_corrections) → dense_walk (grid (goal.at.After-walk_corrections c).Start) ≡ corrections_walked_of c.walk_corrections.result
+walked : (c : After-walk_corrections)
+    → dense_walk (grid (goal.at.After-walk_corrections c).Start) ≡ corrections_walked_of c.walk_corrections.result
 walked c = sym (rw c.beside-longitude.ensures at c.walk_corrections.ensures)
 
 found : (c : In-Largest) → DenseWalked (grid (goal.at.In-Largest c).Start) c.in-Largest.dense
@@ -57,7 +59,11 @@ returns-then-not-nested_slopes_pass c =
 
 pub returns-then-not-border_agrees : goal.returns-then-not-border_agrees
 returns-then-not-border_agrees c =
-    rw (border_left (goal.at.returns-then-not-border_agrees c).Else-not-nested_slopes_pass, sym c.border_agrees.ensures ∙ c.if-not-border_agrees.true) refl
+    rw (
+      border_left (goal.at.returns-then-not-border_agrees c).Else-not-nested_slopes_pass,
+      sym c.border_agrees.ensures
+          ∙ c.if-not-border_agrees.true,
+    ) refl
 
 pub returns : goal.returns
 returns c =

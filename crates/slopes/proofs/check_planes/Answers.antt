@@ -28,20 +28,24 @@ left : (c : Else-l) → let g = grid (goal.at.Else-l c).Start in
     check g ≡ ask (where_unbounded g (question22 g)) 22 (ask (slopes_pass c.args.l found) 12 (values found))
 left c = plain_left _ c.requires (walked (goal.at.Else-l c).In-Largest) c.if-l.false
 
-slopes_left : (c : Else-not-border_passes) → check (grid (goal.at.Else-not-border_passes c).Start) ≡ ask (slopes_pass c.args.l c.in-Largest.found) 12 (values c.in-Largest.found)
+slopes_left : (c : Else-not-border_passes)
+    → check (grid (goal.at.Else-not-border_passes c).Start) ≡ ask (slopes_pass c.args.l c.in-Largest.found) 12 (values c.in-Largest.found)
 slopes_left c =
     left (goal.at.Else-not-border_passes c).Else-l ∙ answered_yes _ 22 _ (sym c.border_passes.ensures ∙ c.if-not-border_passes.false)
 
 pub returns-then-not-border_passes : goal.returns-then-not-border_passes
 returns-then-not-border_passes c =
-    sym (left (goal.at.returns-then-not-border_passes c).Else-l ∙ answered_no _ 22 _ (sym c.border_passes.ensures ∙ c.if-not-border_passes.true))
+    sym (left (goal.at.returns-then-not-border_passes c).Else-l
+    ∙ answered_no _ 22 _ (sym c.border_passes.ensures ∙ c.if-not-border_passes.true))
 
 pub returns-in-Beyond : goal.returns-in-Beyond
 returns-in-Beyond c =
     sym (none_left (grid (goal.at.returns-in-Beyond c).Start) (sym c.walk_planes.ensures ∙ ap walked_of c.in-Beyond.is))
 
 pub returns-then-slopes_pass : goal.returns-then-slopes_pass
-returns-then-slopes_pass c = rw (slopes_left (goal.at.returns-then-slopes_pass c).Else-not-border_passes, sym c.slopes_pass.ensures ∙ c.if-slopes_pass.true)
+returns-then-slopes_pass c =
+    rw (slopes_left (goal.at.returns-then-slopes_pass c).Else-not-border_passes, sym c.slopes_pass.ensures ∙ c.if-slopes_pass.true)
 
 pub returns-else-slopes_pass : goal.returns-else-slopes_pass
-returns-else-slopes_pass c = rw (slopes_left (goal.at.returns-else-slopes_pass c).Else-not-border_passes, sym c.slopes_pass.ensures ∙ c.if-slopes_pass.false)
+returns-else-slopes_pass c =
+    rw (slopes_left (goal.at.returns-else-slopes_pass c).Else-not-border_passes, sym c.slopes_pass.ensures ∙ c.if-slopes_pass.false)
