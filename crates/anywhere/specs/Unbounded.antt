@@ -9,7 +9,7 @@ use Rattle.rules.specs.Answers.{Outcome, values, and_then}
 use Rattle.rules.specs.Limits.{Open, PointWithin}
 use Rattle.rules.specs.Lookup.{Height, no_correction}
 use Rattle.rules.specs.Ways.{Accepted, plus, answer_at}
-use Rattle.out.specs.Answer.{answerFrom}
+use Rattle.out.specs.Answer.{answer_from}
 
 -- The image is open without bounds, and the point within question 7's limits.
 pub record OpenAnywhere (b : List ℕ) (l : Layout) (p : Point) : Type 0 where
@@ -23,5 +23,5 @@ back_from lookup q height c = and_then lookup (λ found. values (answer_at (plus
 
 -- Either way's answer from a point p outside the bounds: p itself, after one evaluation.
 abbrev pub outside : Way → Outcome Height → (p : Point) (height : ℤ) → Outcome Accepted
-outside way.Out lookup p height = answerFrom lookup p height 1
+outside way.Out lookup p height = answer_from lookup p height 1
 outside way.Back lookup p height = back_from lookup p height no_correction

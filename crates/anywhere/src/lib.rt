@@ -9,7 +9,7 @@ ghost use Rattle.rules.specs.Limits.{PointWithin, CorrectionWithin};
 ghost use Rattle.rules.specs.Lookup.{height_lookup_of};
 ghost use Rattle.rules.specs.Ways as ways;
 ghost use Rattle.source.specs.Asked.{FoundWithin};
-ghost use Rattle.out.specs.Answer.{answerFrom};
+ghost use Rattle.out.specs.Answer.{answer_from};
 ghost use Rattle.anywhere.specs.Unbounded.{OpenAnywhere, back_from, outside};
 
 use back::added;
@@ -83,7 +83,7 @@ fn out_anywhere(image: &[u8], l: Layout, p: Point, height: i64) -> Answer
 // The answer at q after so many evaluations, by what the lookup of the quasi-geoid height there found.
 fn answer_with(found: HeightLookup, q: Point, height: i64, count: u64) -> Answer
     requires { FoundWithin (height_lookup_of found) × (nat_abs height ≤ out_height_limit) }
-    ensures { ways.answer_of result ≡ answerFrom (height_lookup_of found) q height count }
+    ensures { ways.answer_of result ≡ answer_from (height_lookup_of found) q height count }
 {
     match found {
         HeightLookup::Height(z) => Answer::Values(position_below(q, height, z, count)),

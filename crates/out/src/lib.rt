@@ -2,15 +2,15 @@
 #![tactic(auto)]
 
 ghost use Rattle.std.specs.Prelude.{◌≡◌, ◌≤◌, nat_abs, ◌-ℤ◌};
-ghost use Rattle.rules.specs.Units.{outHeightLimit, quasiGeoidLimit};
-ghost use Rattle.rules.specs.Image.{gridOf};
+ghost use Rattle.rules.specs.Units.{out_height_limit, quasi_geoid_limit};
+ghost use Rattle.rules.specs.Image.{grid_of};
 ghost use Rattle.rules.specs.Limits.{OpenAround};
-ghost use Rattle.rules.specs.Lookup.{gridFor};
+ghost use Rattle.rules.specs.Lookup.{grid_for};
 ghost use Rattle.rules.specs.Ways as ways;
 ghost use Rattle.lookup.specs.Held.{Bounded, held_at};
-ghost use Rattle.grids.specs.Grids.{takenDense};
+ghost use Rattle.grids.specs.Grids.{taken_dense};
 ghost use Rattle.source.specs.Asked.{HeldFor};
-ghost use Rattle.out.specs.Answer.{answerFrom, stopFor, stillIn};
+ghost use Rattle.out.specs.Answer.{answer_from, stop_for, still_in};
 
 use grids::{corrections_around, is_taken_dense};
 use lookup::{HeldCell, cell_around, lies_in, no_cell};
@@ -25,8 +25,8 @@ use turns::{Turn, evaluation};
 // The last point's cell is held, and another is read only where the next point does not lie in it, or takes its corrections from the
 // other grid: on the dense border it lies on the side of a coarse cell too.
 pub fn out_from(image: &[u8], l: Layout, p: Point, height: i64) -> Answer
-    requires { OpenAround image.now l p × (nat_abs height ≤ outHeightLimit) }
-    ensures { ways.answer_of result ≡ ways.out (ways.boundedSource (gridOf image.now l)) p height }
+    requires { OpenAround image.now l p × (nat_abs height ≤ out_height_limit) }
+    ensures { ways.answer_of result ≡ ways.out (ways.bounded_source (grid_of image.now l)) p height }
 {
     let bounds = l.latitude.geometry;
     let stop = stop_distance(l);
@@ -58,7 +58,7 @@ pub fn out_from(image: &[u8], l: Layout, p: Point, height: i64) -> Answer
 
 // The stop rule's distance, by whether there is a dense grid.
 fn stop_distance(l: Layout) -> u64
-    ensures { result ≡ stopFor l }
+    ensures { result ≡ stop_for l }
 {
     if l.nested {
         DENSE_STOP_DISTANCE
@@ -70,7 +70,7 @@ fn stop_distance(l: Layout) -> u64
 // Is a point's cell the held one: does the point lie in it, and is it of the grid that the point's corrections are taken from?
 fn is_held(held: HeldCell, dense: bool, bounds: Geometry, next: bool, r: Point) -> bool
     requires { Bounded bounds r }
-    ensures { result ≡ stillIn held dense bounds next r }
+    ensures { result ≡ still_in held dense bounds next r }
 {
     if next == dense {
         lies_in(held, bounds, r)
@@ -81,8 +81,8 @@ fn is_held(held: HeldCell, dense: bool, bounds: Geometry, next: bool, r: Point) 
 
 // The cell around a point: at the nodes of all values, or at those of corrections alone.
 fn cell_for(image: &[u8], l: Layout, dense: bool, r: Point) -> HeldCell
-    requires { OpenAround image.now l r × (dense ≡ takenDense l r) }
-    ensures { result ≡ held_at l.latitude.geometry (gridFor (gridOf image.now l) r) r }
+    requires { OpenAround image.now l r × (dense ≡ taken_dense l r) }
+    ensures { result ≡ held_at l.latitude.geometry (grid_for (grid_of image.now l) r) r }
 {
     if l.separate {
         return corrections_around(image, l, dense, r);
@@ -93,9 +93,9 @@ fn cell_for(image: &[u8], l: Layout, dense: bool, r: Point) -> HeldCell
 // The answer at q after so many evaluations: the height minus the quasi-geoid height there. The last cell held, h, is handed on, since it
 // may have q's height.
 fn answer_at(image: &[u8], l: Layout, h: HeldCell, q: Point, height: i64, count: u64) -> Answer
-    requires { OpenAround image.now l q × HeldFor h image.now l q × (nat_abs height ≤ outHeightLimit) }
+    requires { OpenAround image.now l q × HeldFor h image.now l q × (nat_abs height ≤ out_height_limit) }
     ensures { ways.answer_of result
-        ≡ answerFrom ((ways.boundedSource (gridOf image.now l)).height q) q height count }
+        ≡ answer_from ((ways.bounded_source (grid_of image.now l)).height q) q height count }
 {
     match height_at(image, l, h, q) {
         HeightLookup::Height(z) => Answer::Values(position_below(q, height, z, count)),
@@ -106,7 +106,7 @@ fn answer_at(image: &[u8], l: Layout, h: HeldCell, q: Point, height: i64, count:
 
 // The point q at the height less z, and the count.
 pub fn position_below(q: Point, height: i64, z: i64, count: u64) -> Position
-    requires { (nat_abs height ≤ outHeightLimit) × (nat_abs z ≤ quasiGeoidLimit) }
+    requires { (nat_abs height ≤ out_height_limit) × (nat_abs z ≤ quasi_geoid_limit) }
     ensures { result ≡ ways.position q (height -ℤ z) count }
 {
     let latitude = q.latitude;

@@ -16,7 +16,7 @@ use Rattle.rules.proofs.Limits.{reached, moved_reached}
 use Rattle.grids.specs.Grids.{correction_lookup_of}
 use Rattle.source.specs.Asked.{FoundWithin}
 use Rattle.source.proofs.Sources.{height_anywhere, anywhere_within}
-use Rattle.out.specs.Answer.{answerFrom}
+use Rattle.out.specs.Answer.{answer_from}
 use Rattle.anywhere.proofs.Evaluations.{anywhere_limit, from, one_evaluation, refused, spent}
 use Rattle.anywhere.proofs.out_anywhere.Statement.{statement}
 use Rattle.anywhere.proofs.out_anywhere.Tie as tie
@@ -135,7 +135,7 @@ returns_2 c =
     let s = start l in
     rw (led t.before _ t.if1.true)
     ((rw (to_z-of_z s.fits.height) at c.answer-with.ensures)
-    ∙ ap (λ (o : Outcome Height). answerFrom o m.moved.result s.args.height (l.loop.n + 1))
+    ∙ ap (λ (o : Outcome Height). answer_from o m.moved.result s.args.height (l.loop.n + 1))
     (h.height-or-none.ensures ∙ sym (height_anywhere (grid l) m.moved.result)))
 
 loop_again : tie.Need-loop-preserved invariant-loop decreases-loop
