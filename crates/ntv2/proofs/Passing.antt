@@ -78,41 +78,41 @@ rest_is b nodes room h = by (has_subgrid b) refl
         }
 
 -- What a file that passes has: both grids.
-pub record FileIs (b : List ℕ) (room denseRoom : ℕ) : Type 0 where
+pub record FileIs (b : List ℕ) (room dense_room : ℕ) : Type 0 where
   pub coarse : GridIs (first_grid b) room
-  pub rest : RestIs b (node_count (grid_header_of (first_grid b))) denseRoom
+  pub rest : RestIs b (node_count (grid_header_of (first_grid b))) dense_room
 
-pub file_is : (b : List ℕ) (room denseRoom : ℕ) → question18 b room denseRoom ≡ true → FileIs b room denseRoom
+pub file_is : (b : List ℕ) (room dense_room : ℕ) → question18 b room dense_room ≡ true → FileIs b room dense_room
 unfolding question18
-file_is b room denseRoom h =
+file_is b room dense_room h =
     let g = first_grid b in
     let n = node_count (grid_header_of g) in
-    let i = and_right (overview_passes b) (grid_passes g none_text room && rest_passes b n denseRoom) h in
+    let i = and_right (overview_passes b) (grid_passes g none_text room && rest_passes b n dense_room) h in
     record {
-      coarse = grid_is g none_text room (and_left (grid_passes g none_text room) (rest_passes b n denseRoom) i);
-      rest = rest_is b n denseRoom (and_right (grid_passes g none_text room) (rest_passes b n denseRoom) i);
+      coarse = grid_is g none_text room (and_left (grid_passes g none_text room) (rest_passes b n dense_room) i);
+      rest = rest_is b n dense_room (and_right (grid_passes g none_text room) (rest_passes b n dense_room) i);
     }
 
 -- What a conversion tells: a file that passes, of nodes that pass, and its geometries.
-pub converted : (b : List ℕ) (room denseRoom : ℕ) (g : FileGrids) → corrections_from b room denseRoom ≡ values g
-    → FileIs b room denseRoom × (question19 b (node_count g.coarse) (node_count g.dense) ≡ true) × (grids_of b ≡ g)
+pub converted : (b : List ℕ) (room dense_room : ℕ) (g : FileGrids) → corrections_from b room dense_room ≡ values g
+    → FileIs b room dense_room × (question19 b (node_count g.coarse) (node_count g.dense) ≡ true) × (grids_of b ≡ g)
 unfolding corrections_from
-converted b room denseRoom g h =
-    let q = asked (question18 b room denseRoom) 18 _ g h in
+converted b room dense_room g h =
+    let q = asked (question18 b room dense_room) 18 _ g h in
     let n = asked (question19 b (node_count (grids_of b).coarse) (node_count (grids_of b).dense)) 19 _ g q.1 in
     let same : grids_of b ≡ g = cc in (
-      file_is b room denseRoom q.0,
+      file_is b room dense_room q.0,
       subst (λ (g : FileGrids). question19 b (node_count g.coarse) (node_count g.dense) ≡ true) same n.0,
       same,
     )
 
 -- The geometries that are handed back have small numbers.
-pub converted_small : (b : List ℕ) (room denseRoom : ℕ) → BothHandedBack (corrections_from b room denseRoom)
-converted_small b room denseRoom = both_handed_back (corrections_from b room denseRoom) by
+pub converted_small : (b : List ℕ) (room dense_room : ℕ) → BothHandedBack (corrections_from b room dense_room)
+converted_small b room dense_room = both_handed_back (corrections_from b room dense_room) by
   where
-    by : (g : FileGrids) → corrections_from b room denseRoom ≡ values g → SmallGeometry g.coarse × SmallGeometry g.dense
+    by : (g : FileGrids) → corrections_from b room dense_room ≡ values g → SmallGeometry g.coarse × SmallGeometry g.dense
     by g h =
-        let c = converted b room denseRoom g h in
+        let c = converted b room dense_room g h in
         let i = c.0 in
         subst (λ (g : FileGrids). SmallGeometry g.coarse × SmallGeometry g.dense) c.2
         (passes_small (grid_header_of (first_grid b)) i.coarse.geometry, i.rest.geometry)

@@ -61,11 +61,11 @@ longitude_most b n h =
     leb-true _ _ (and_right (finite binary32 (longitude_shift b n)) _ (and_right (finite binary32 (latitude_shift b n) && _) _ h))
 
 -- What a conversion tells of the nodes: all pass.
-fit : (b : List ℕ) (room denseRoom : ℕ) (g : FileGrids) → corrections_from b room denseRoom ≡ values g
+fit : (b : List ℕ) (room dense_room : ℕ) (g : FileGrids) → corrections_from b room dense_room ≡ values g
     → question19 b (node_count g.coarse) (node_count g.dense) ≡ true
 unfolding corrections_from
-fit b room denseRoom g e =
-    let room_fits = asked (question18 b room denseRoom) 18 _ g e in
+fit b room dense_room g e =
+    let room_fits = asked (question18 b room dense_room) 18 _ g e in
     let all = asked (question19 b (node_count (grids_of b).coarse) (node_count (grids_of b).dense)) 19 _ g room_fits.1 in
     let same : grids_of b ≡ g = cc in
     subst (λ (g : FileGrids). question19 b (node_count g.coarse) (node_count g.dense) ≡ true) same all.0
