@@ -5,8 +5,8 @@
 ghost use Rattle.std.specs.Prelude.{cond, ◌&&◌, ◌≡◌, ◌*◌, ◌^◌, ◌≤◌, ◌<◌, ltb, pos};
 ghost use Rattle.std.specs.Int.Signed.{lt_z};
 ghost use Rattle.rules.specs.Units.{degrees};
-ghost use Rattle.rules.specs.Notation.{per_degree, total, axis_limit, positive_letter, negative_letter, magnitude_read, total_written, split};
-ghost use Rattle.rules.specs.Notation.{read_notation, write_notation, reading_of, writing_of};
+ghost use Rattle.rules.specs.Notation.{per_degree, total, axis_limit, positive_letter, negative_letter, magnitude_read, total_written};
+ghost use Rattle.rules.specs.Notation.{split, read_notation, write_notation, reading_of, writing_of};
 ghost use Rattle.notation.specs.Parts.{side_of, amounts_fit};
 
 use rules::{Notation, Reading, Refusal, Writing};

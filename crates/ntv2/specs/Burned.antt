@@ -12,8 +12,8 @@ use Rattle.rules.specs.Image.{rows, columns, plane, node_count}
 use Rattle.rules.specs.Floats.{binary32, finite}
 use Rattle.rules.specs.Files.{bytes_of, in_sequence}
 use Rattle.rules.specs.Ntv2.{first_grid, subgrid_after, question18, grids_of, latitude_shift, longitude_shift, latitude_from}
-use Rattle.rules.specs.Ntv2.{longitude_from, shifts_fit, all_shifts_fit, question19, file_node, correction_node, correction_row, correction_nodes}
-use Rattle.rules.specs.Ntv2.{corrections_from, corrections_after, dense_corrections_after}
+use Rattle.rules.specs.Ntv2.{longitude_from, shifts_fit, all_shifts_fit, question19, file_node, correction_node, correction_row}
+use Rattle.rules.specs.Ntv2.{correction_nodes, corrections_from, corrections_after, dense_corrections_after}
 use Rattle.rules.proofs.Answers.{asked}
 use Rattle.rules.proofs.Largest.{every_at}
 use Rattle.rules.proofs.Buffer.{parts_long, part_among, bytes_read}
@@ -103,8 +103,8 @@ nodes_read b before end g row column q i j =
     (rw (parts, long) at first, rw (parts-2, long-2) at second)
 
 -- So it is where a file was converted into two buffers and either one was burned into an image.
-pub burned : (b buffer dense_buffer before end : List ℕ) (g : FileGrids) → corrections_from b (length buffer) (length dense_buffer) ≡ values g
-    → (row column : ℕ) → row < rows g.coarse → column < columns g.coarse
+pub burned : (b buffer dense_buffer before end : List ℕ) (g : FileGrids)
+    → corrections_from b (length buffer) (length dense_buffer) ≡ values g → (row column : ℕ) → row < rows g.coarse → column < columns g.coarse
     → Reads (before ++ (corrections_after b buffer dense_buffer ++ end)) (first_grid b) g.coarse (length before) row column
 unfolding question19
 burned b buffer dense_buffer before end g e row column i j =

@@ -9,8 +9,8 @@ ghost use Rattle.rules.specs.Image.{node_count};
 ghost use Rattle.rules.specs.Floats.{binary32, value_of};
 ghost use Rattle.rules.specs.Files.{in_sequence, file_answer_of, grids_answer_of};
 ghost use Rattle.rules.specs.Ntv2.{arcseconds, turned, grid_header_of, grid_passes, closed, subgrid_after, subgrid_passes};
-ghost use Rattle.rules.specs.Ntv2.{rest_passes, question18, no_geometry, subgrid_header_of, grids_of, shifts_fit, all_shifts_fit, question19};
-ghost use Rattle.rules.specs.Ntv2.{correction_node, correction_row, correction_nodes, corrections_from, corrections_after};
+ghost use Rattle.rules.specs.Ntv2.{rest_passes, question18, no_geometry, subgrid_header_of, grids_of, shifts_fit, all_shifts_fit};
+ghost use Rattle.rules.specs.Ntv2.{question19, correction_node, correction_row, correction_nodes, corrections_from, corrections_after};
 ghost use Rattle.rules.specs.Ntv2.{dense_corrections_after};
 ghost use Rattle.ntv2.specs.Reading.{shift_fits, turned_fits, RowFits};
 

@@ -7,7 +7,8 @@ use Rattle.rules.specs.Answers.{Outcome, ask, values}
 use Rattle.rules.specs.Units.{count_most}
 use Rattle.rules.specs.Image.{node_count}
 use Rattle.rules.specs.Files.{file_answer_of}
-use Rattle.rules.specs.Ntv2.{none_text, overview_passes, grid_header_of, grid_passes, first_grid, subgrid_header_of, rest_passes, question18}
+use Rattle.rules.specs.Ntv2.{none_text, overview_passes, grid_header_of, grid_passes, first_grid, subgrid_header_of, rest_passes}
+use Rattle.rules.specs.Ntv2.{question18}
 use Rattle.rules.proofs.Answers.{asked, asked_no}
 use Rattle.rules.proofs.Lent.{part_from_lem}
 use Rattle.ntv2.proofs.Passing.{grid_is}

@@ -38,7 +38,8 @@ loop-row-preserved c =
     let l = c.loop-row in (
       omega arith,
       omega arith,
-      written_more _ _ _ _ _ _ _ _ (row_long _ _ _) (omega (arith, within (goal.at.loop-row-preserved c).In-loop-row)) (c.write_row.ensures ∙ sym (append-nil _)) refl l.invariant.2,
+      written_more _ _ _ _ _ _ _ _ (row_long _ _ _) (omega (arith, within (goal.at.loop-row-preserved c).In-loop-row))
+          (c.write_row.ensures ∙ sym (append-nil _)) refl l.invariant.2,
     )
 
 pub returns : goal.returns

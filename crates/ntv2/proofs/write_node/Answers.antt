@@ -50,7 +50,8 @@ small z w e h = rw e (omega arith)
 first_left : (c : After-write_i32) → let s = c.args in
     c.write_i32.new.rest ≡ bytes_of (latitude_from s.grid.now s.n) ++ drop 4 s.rest.now
 first_left c =
-    c.write_i32.ensures ∙ ap (λ (z : ℤ). bytes_of z ++ drop 4 c.args.rest.now) (latitude_is (goal.at.After-write_i32 c).After-fit_correction-latitude)
+    c.write_i32.ensures
+    ∙ ap (λ (z : ℤ). bytes_of z ++ drop 4 c.args.rest.now) (latitude_is (goal.at.After-write_i32 c).After-fit_correction-latitude)
 
 pub write_i32-requires-2 : goal.write_i32-requires-2
 write_i32-requires-2 c = (
