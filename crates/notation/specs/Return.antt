@@ -131,7 +131,3 @@ module _ (longitude : Bool) (z : ℤ) (n : Notation) (h : write_notation longitu
       let below = ltb 0 (total_written z) && lt_z z (pos 0) in
       let read = read_split longitude (total_written z) (letter_written longitude z) most ∙ by_letter longitude below _ in
       (_, ap (read_notation longitude) written.1 ∙ read, near_abs 1 _ z (near_written z _ _ refl refl))
-
-  -- A written notation, read, is written as it was.
-  pub written_again : (w : ℤ) → read_notation longitude n ≡ values w → write_notation longitude w ≡ values n
-  written_again w read = read_then_write longitude n w read zero_written

@@ -1,20 +1,17 @@
 -- Two theorems for readers: the bytes that the conversion of a file writes into either buffer are, put anywhere into an image, read back as
 -- the corrections of the grid's nodes, each row turned from east to west.
 use Rattle.std.specs.Prelude.{true, ◌&&◌, List, ◌++◌, ◌≡◌, ℕ, ◌+◌, ◌*◌, ◌≤◌, ◌<◌, nat_abs, length}
-use Rattle.std.proofs.Common.{append_assoc, ◌∙◌, subst, mul-le-mul_right, arith, length-append, leb-true}
+use Rattle.std.proofs.Common.{append_assoc, ◌∙◌, mul-le-mul_right, arith, length-append, leb-true}
 use Rattle.std.proofs.Math.Path.{refl}
 use Rattle.integers.specs.Booleans.{and_left, and_right}
 use Rattle.rules.specs.declared.Geometry.{Geometry}
-use Rattle.rules.specs.declared.FileGrids.{FileGrids}
 use Rattle.rules.specs.Units.{correction_limit}
-use Rattle.rules.specs.Answers.{values}
 use Rattle.rules.specs.Image.{rows, columns, plane, node_count}
 use Rattle.rules.specs.Floats.{binary32, finite}
 use Rattle.rules.specs.Files.{bytes_of, in_sequence}
-use Rattle.rules.specs.Ntv2.{first_grid, subgrid_after, question18, grids_of, latitude_shift, longitude_shift, latitude_from}
-use Rattle.rules.specs.Ntv2.{longitude_from, shifts_fit, all_shifts_fit, question19, file_node, correction_node, correction_row}
-use Rattle.rules.specs.Ntv2.{correction_nodes, corrections_from, corrections_after, dense_corrections_after}
-use Rattle.rules.proofs.Answers.{asked}
+use Rattle.rules.specs.Ntv2.{latitude_shift, longitude_shift, latitude_from}
+use Rattle.rules.specs.Ntv2.{longitude_from, shifts_fit, all_shifts_fit, file_node, correction_node, correction_row}
+use Rattle.rules.specs.Ntv2.{correction_nodes}
 use Rattle.rules.proofs.Largest.{every_at}
 use Rattle.rules.proofs.Buffer.{parts_long, part_among, bytes_read}
 
@@ -60,25 +57,15 @@ unfolding shifts_fit
 longitude_most b n h =
     leb-true _ _ (and_right (finite binary32 (longitude_shift b n)) _ (and_right (finite binary32 (latitude_shift b n) && _) _ h))
 
--- What a conversion tells of the nodes: all pass.
-fit : (b : List ℕ) (room dense_room : ℕ) (g : FileGrids) → corrections_from b room dense_room ≡ values g
-    → question19 b (node_count g.coarse) (node_count g.dense) ≡ true
-unfolding corrections_from
-fit b room dense_room g e =
-    let room_fits = asked (question18 b room dense_room) 18 _ g e in
-    let all = asked (question19 b (node_count (grids_of b).coarse) (node_count (grids_of b).dense)) 19 _ g room_fits.1 in
-    let same : grids_of b ≡ g = cc in
-    subst (λ (g : FileGrids). question19 b (node_count g.coarse) (node_count g.dense) ≡ true) same all.0
-
 -- Where a grid's nodes all pass and were written into an image, anywhere, the image's planes that begin there have at each row and column
 -- both corrections of the grid's node for it.
-abbrev Reads : (image grid : List ℕ) → Geometry → (first row column : ℕ) → Type 0
+abbrev pub Reads : (image grid : List ℕ) → Geometry → (first row column : ℕ) → Type 0
 Reads image grid g first row column =
     let n = file_node (columns g) row column in
     (plane image (record { geometry = g; first = first; stride = 8 }) row column ≡ latitude_from grid n)
     × (plane image (record { geometry = g; first = first + 4; stride = 8 }) row column ≡ longitude_from grid n)
 
-nodes_read : (grid before end : List ℕ) (g : Geometry) (row column : ℕ) → all_shifts_fit grid (node_count g) ≡ true → row < rows g
+pub nodes_read : (grid before end : List ℕ) (g : Geometry) (row column : ℕ) → all_shifts_fit grid (node_count g) ≡ true → row < rows g
     → column < columns g → Reads (before ++ (correction_nodes grid g ++ end)) grid g (length before) row column
 unfolding all_shifts_fit correction_nodes plane correction_node
 nodes_read b before end g row column q i j =
@@ -101,23 +88,3 @@ nodes_read b before end g row column q i j =
     let first = bytes_read front (longitude ++ (r.0 ++ end)) (latitude_from b n) (omega (arith, latitude_most b n fits)) in
     let second = bytes_read (front ++ latitude) (r.0 ++ end) (longitude_from b n) (omega (arith, longitude_most b n fits)) in
     (rw (parts, long) at first, rw (parts-2, long-2) at second)
-
--- So it is where a file was converted into two buffers and either one was burned into an image.
-pub burned : (b buffer dense_buffer before end : List ℕ) (g : FileGrids)
-    → corrections_from b (length buffer) (length dense_buffer) ≡ values g → (row column : ℕ) → row < rows g.coarse → column < columns g.coarse
-    → Reads (before ++ (corrections_after b buffer dense_buffer ++ end)) (first_grid b) g.coarse (length before) row column
-unfolding question19
-burned b buffer dense_buffer before end g e row column i j =
-    let q = fit b _ _ g e in
-    let fits = and_left (all_shifts_fit (first_grid b) (node_count g.coarse)) _ q in
-    rw e (nodes_read (first_grid b) before end g.coarse row column fits i j)
-
-pub dense_burned : (b buffer dense_buffer before end : List ℕ) (g : FileGrids)
-    → corrections_from b (length buffer) (length dense_buffer) ≡ values g → (row column : ℕ) → row < rows g.dense
-    → column < columns g.dense → let dense = subgrid_after b (node_count g.coarse) in
-    Reads (before ++ (dense_corrections_after b buffer dense_buffer ++ end)) dense g.dense (length before) row column
-unfolding question19
-dense_burned b buffer dense_buffer before end g e row column i j =
-    let q = fit b _ _ g e in
-    let fits = and_right (all_shifts_fit (first_grid b) (node_count g.coarse)) _ q in
-    rw e (nodes_read (subgrid_after b (node_count g.coarse)) before end g.dense row column fits i j)

@@ -1,0 +1,2 @@
+-- A theorem for readers.
+pub mod WrittenAgain
