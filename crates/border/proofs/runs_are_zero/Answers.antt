@@ -51,9 +51,3 @@ unfolding both_zero
 returns c =
     let all : c.loop-node.node ≡ c.args.count = omega arith in
     sym (rw all at c.loop-node.invariant.1)
-
-pub run_value-requires : goal.run_value-requires
-run_value-requires c = c.requires.0 _ (omega arith)
-
-pub run_value-requires-in-loop-node : goal.run_value-requires-in-loop-node
-run_value-requires-in-loop-node c = c.requires.1 _ (omega arith)

@@ -38,17 +38,8 @@ loop-column-preserved c =
           (c.with_corrections-found.ensures ∙ rw (c.correction_of-here.ensures, l.invariant.1, c.correction_of.ensures)),
     )
 
-pub correction_of-west-requires : goal.correction_of-west-requires
-correction_of-west-requires c = c.requires.2 0 (omega arith)
-
 pub loop-column-init : goal.loop-column-init
 loop-column-init c = (omega arith, c.correction_of-west.ensures, walked_none)
-
-pub correction_of-here-requires : goal.correction_of-here-requires
-correction_of-here-requires c = c.requires.2 _ (omega arith)
-
-pub correction_of-requires : goal.correction_of-requires
-correction_of-requires c = c.requires.1 _ (omega arith)
 
 pub returns : goal.returns
 returns c = walked_all c.loop-column.invariant.2 (omega arith)

@@ -38,17 +38,8 @@ loop-column-preserved c =
           (c.with_nodes-found.ensures ∙ rw (c.node_of-here.ensures, l.invariant.1, c.node_of.ensures)),
     )
 
-pub node_of-west-requires : goal.node_of-west-requires
-node_of-west-requires c = c.requires.2 0 (omega arith)
-
 pub loop-column-init : goal.loop-column-init
 loop-column-init c = (omega arith, c.node_of-west.ensures, walked_none)
-
-pub node_of-here-requires : goal.node_of-here-requires
-node_of-here-requires c = c.requires.2 _ (omega arith)
-
-pub node_of-requires : goal.node_of-requires
-node_of-requires c = c.requires.1 _ (omega arith)
 
 pub returns : goal.returns
 returns c = walked_all c.loop-column.invariant.2 (omega arith)

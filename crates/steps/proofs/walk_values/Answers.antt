@@ -51,17 +51,8 @@ loop-column-preserved c =
           (c.with_node-found.ensures ∙ rw (h, l.invariant.1, southern (goal.at.loop-column-preserved c).After-run_value)),
     )
 
-pub run_value-west-requires : goal.run_value-west-requires
-run_value-west-requires c = c.requires.2 0 (omega arith)
-
 pub loop-column-init : goal.loop-column-init
 loop-column-init c = (omega arith, told w64 c.run_value-west.type_inv c.run_value-west.ensures, walked_none)
-
-pub run_value-here-requires : goal.run_value-here-requires
-run_value-here-requires c = c.requires.2 _ (omega arith)
-
-pub run_value-requires : goal.run_value-requires
-run_value-requires c = c.requires.1 _ (omega arith)
 
 pub returns : goal.returns
 returns c = walked_all c.loop-column.invariant.2 (omega arith)
