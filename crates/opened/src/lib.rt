@@ -1,8 +1,7 @@
 // An opened image: a record that refers to the lent bytes and holds the layout of its values, with few thin functions over it.
-// The kit derives the walk of every other function's compiled code, so that its proof is about values alone, but not the walk of a
-// function over a record that holds a reference. So each of these is walked by hand (proofs/), and leaves the work to a function that the
-// kit covers, on the slice and the layout. An enum cannot hold a reference, so opening does not answer the record: the caller matches
-// `image::open` and makes the record of the layout found, as `way_out` does.
+// Each leaves the work to a function on the slice and the layout. What it promises is what that function does, read at the record's
+// fields, whatever the function: `over` and `through` say so once, over any contract. Opening does not answer the record: the caller
+// matches `image::open` and makes the record of the layout found, as `way_out` does.
 #![tactic(auto)]
 
 ghost use Rattle.std.specs.Prelude.{◌≡◌};
@@ -40,12 +39,35 @@ pub fn opened_image<'a>(bytes: &'a [u8], layout: Layout) -> OpenedImage<'a>
     OpenedImage { bytes, layout }
 }
 
+// A function of the bytes, the layout and one thing more, over the record: whatever it asks of them and tells of its result holds of the
+// record's fields.
+pub fn over<'a, X, R, F: FnOnce(&[u8], Layout, X) -> R>(image: OpenedImage<'a>, x: X, f: F) -> R
+    requires { F.pre f image.bytes image.layout x }
+    ensures { F.post f image.entry.bytes image.entry.layout x result }
+{
+    f(image.bytes, image.layout, x)
+}
+
+// The record made of the bytes and the layout and handed on to a function over the record: whatever that asks of the record and tells of
+// its result holds of the two.
+pub fn through<X, R, F: FnOnce(OpenedImage<'_>, X) -> R>(
+    bytes: &[u8],
+    layout: Layout,
+    x: X,
+    f: F,
+) -> R
+    requires { F.pre f (record { bytes = bytes; layout = layout }) x }
+    ensures { F.post f (record { bytes = bytes.entry; layout = layout }) x result }
+{
+    f(opened_image(bytes, layout), x)
+}
+
 // The lookup of the quasi-geoid height at a point in its bounds, if it has any.
 pub fn look_up_in<'a>(image: OpenedImage<'a>, p: Point) -> HeightLookup
     requires { OpenFor image.bytes.now image.layout p }
     ensures { IsLookup image.entry.bytes.now image.entry.layout p result }
 {
-    look_up_height(image.bytes, image.layout, p)
+    over(image, p, look_up_height)
 }
 
 // The way out of a fix over it.
@@ -53,10 +75,10 @@ pub fn out_over_image<'a>(image: OpenedImage<'a>, f: Fix) -> Answer
     requires { Opens image.bytes.now image.layout f }
     ensures { IsOut image.entry.bytes.now image.entry.layout f result }
 {
-    fix_out(image.bytes, image.layout, f)
+    over(image, f, fix_out)
 }
 
-// The covered way out, of a fix.
+// The way out of a fix, on the slice and the layout.
 fn fix_out(bytes: &[u8], l: Layout, f: Fix) -> Answer
     requires { Opens bytes.now l f }
     ensures { IsOut bytes.now l f result }
@@ -64,19 +86,19 @@ fn fix_out(bytes: &[u8], l: Layout, f: Fix) -> Answer
     convert_over(Way::Out, bytes, l, f.point, f.height)
 }
 
-// The record made and handed on, for the way out and for the lookup. The parameters are plain, so that callers need no such walk.
+// The record made and handed on, for the way out and for the lookup.
 fn out_through(bytes: &[u8], layout: Layout, f: Fix) -> Answer
     requires { Opens bytes.now layout f }
     ensures { IsOut bytes.now layout f result }
 {
-    out_over_image(opened_image(bytes, layout), f)
+    through(bytes, layout, f, out_over_image)
 }
 
 fn look_up_through(bytes: &[u8], layout: Layout, p: Point) -> HeightLookup
     requires { OpenFor bytes.now layout p }
     ensures { IsLookup bytes.now layout p result }
 {
-    look_up_in(opened_image(bytes, layout), p)
+    through(bytes, layout, p, look_up_in)
 }
 
 // The way out through an opened image, for every image, point and height: questions 1 to 6 first.
