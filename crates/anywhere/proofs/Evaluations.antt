@@ -17,7 +17,8 @@ use Rattle.rules.specs.Answers.{Outcome, values, number}
 use Rattle.rules.specs.Image.{Grid}
 use Rattle.rules.specs.Limits.{GeometryPasses, CorrectionWithin}
 use Rattle.rules.specs.Bilinear.{corners_for, value_at}
-use Rattle.rules.specs.Lookup.{inside, square_passes, corrections_pass, corrections_at, correction_grid_lookup, no_correction, corrections_or_zero}
+use Rattle.rules.specs.Lookup.{inside, square_passes, corrections_pass, corrections_at, correction_grid_lookup, no_correction}
+use Rattle.rules.specs.Lookup.{corrections_or_zero}
 use Rattle.rules.specs.Lookup.{height_or_none}
 use Rattle.rules.specs.Ways.{Settled, settled, minus, iterate, back, out, way_of, unbounded_source}
 use Rattle.rules.proofs.Answers.{asked}

@@ -17,7 +17,8 @@ abbrev grid : Start → Grid
 grid s = grid_of s.args.image.now s.args.l
 
 -- the corrections, in each arm
-looked : (c : After-corrections_or_zero) → corrections_or_zero (grid (goal.at.After-corrections_or_zero c).Start) c.args.q ≡ correction_lookup_of c.corrections_or_zero.result
+looked : (c : After-corrections_or_zero) →
+    corrections_or_zero (grid (goal.at.After-corrections_or_zero c).Start) c.args.q ≡ correction_lookup_of c.corrections_or_zero.result
 looked c = sym c.corrections_or_zero.ensures
 
 found : (c : In-Found) → corrections_or_zero (grid (goal.at.In-Found c).Start) c.args.q ≡ values c.in-Found.c
@@ -29,11 +30,12 @@ returns-in-Refused c = rw (looked (goal.at.returns-in-Refused c).After-correctio
 
 pub added_with-requires : goal.added_with-requires
 added_with-requires c =
-    let o = c.requires.0 in (
+    let o = c.requires.0 in
+    let at = goal.at.added_with-requires c in (
       subst FoundWithin (sym c.height_or_none.ensures) (anywhere_within _ _ c.args.q o.layout.height.geometry),
       o.point,
       rw (to_z-of_z c.ranges.height) c.requires.1,
-      anywhere_limit (grid (goal.at.added_with-requires c).Start) c.args.q _ o.layout.latitude.geometry (found (goal.at.added_with-requires c).In-Found),
+      anywhere_limit (grid at.Start) c.args.q _ o.layout.latitude.geometry (found at.In-Found),
     )
 
 pub returns-in-Found : goal.returns-in-Found

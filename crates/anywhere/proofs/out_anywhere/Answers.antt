@@ -20,7 +20,8 @@ use Rattle.anywhere.proofs.Evaluations.{anywhere_limit, from, one_evaluation, re
 use Rattle.anywhere.proofs.out_anywhere.Goals as goal
 use Rattle.anywhere.proofs.out_anywhere.Goals.{After-corrections_or_zero, After-is_settled, After-moved-q, In-Found}
 
-looked : (c : After-corrections_or_zero) → corrections_or_zero (grid_of c.args.image.now c.args.l) c.loop-n.r ≡ correction_lookup_of c.corrections_or_zero.result
+looked : (c : After-corrections_or_zero) →
+    corrections_or_zero (grid_of c.args.image.now c.args.l) c.loop-n.r ≡ correction_lookup_of c.corrections_or_zero.result
 looked c = sym c.corrections_or_zero.ensures
 
 found : (c : In-Found) → corrections_or_zero (grid_of c.args.image.now c.args.l) c.loop-n.r ≡ values c.in-Found.c
@@ -32,7 +33,9 @@ more c = omega (arith, c.loop-n-test.true)
 pub returns-in-Refused : goal.returns-in-Refused
 unfolding out
 returns-in-Refused c =
-    let none = refused (grid_of c.args.image.now c.args.l) c.args.p c.loop-n.r c.loop-n.n (more (goal.at.returns-in-Refused c).After-corrections_or_zero) _ (looked (goal.at.returns-in-Refused c).After-corrections_or_zero ∙ ap correction_lookup_of c.in-Refused.is) in
+    let g = grid_of c.args.image.now c.args.l in
+    let k = (goal.at.returns-in-Refused c).After-corrections_or_zero in
+    let none = refused g c.args.p c.loop-n.r c.loop-n.n (more k) _ (looked k ∙ ap correction_lookup_of c.in-Refused.is) in
     rw (c.loop-n.invariant.2 ∙ none)
 
 -- the corrections are within their limit, so the next point is not far
@@ -55,7 +58,9 @@ led : (c : After-is_settled) (t : Bool) → c.is_settled.result ≡ t →
     from g c.args.p 0 c.args.p
     ≡ cond t (values (record { point = c.moved-q.result; count = c.loop-n.n + 1 })) (from g c.args.p (c.loop-n.n + 1) c.moved-q.result)
 led c t e =
-    let one = one_evaluation (grid_of c.args.image.now c.args.l) c.args.p c.loop-n.r c.loop-n.n (more (goal.at.After-is_settled c).After-corrections_or_zero) _ (found (goal.at.After-is_settled c).In-Found) in
+    let g = grid_of c.args.image.now c.args.l in
+    let at = goal.at.After-is_settled c in
+    let one = one_evaluation g c.args.p c.loop-n.r c.loop-n.n (more at.After-corrections_or_zero) _ (found at.In-Found) in
     let q = sym c.moved-q.ensures in
     let s : settled stop_distance c.moved-q.result c.loop-n.r ≡ t = sym c.is_settled.ensures ∙ e in
     let n = c.loop-n.n + 1 in
@@ -78,7 +83,9 @@ returns-then-is_settled c =
     (c.height_or_none.ensures ∙ sym (height_anywhere (grid_of c.args.image.now c.args.l) c.moved-q.result)))
 
 pub loop-n-preserved : goal.loop-n-preserved
-loop-n-preserved c = (omega arith, next_reached (goal.at.loop-n-preserved c).After-moved-q, led (goal.at.loop-n-preserved c).After-is_settled _ c.if-is_settled.false)
+loop-n-preserved c =
+    let at = goal.at.loop-n-preserved c in
+    (omega arith, next_reached at.After-moved-q, led at.After-is_settled _ c.if-is_settled.false)
 
 pub returns : goal.returns
 unfolding out

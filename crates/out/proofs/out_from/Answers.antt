@@ -87,7 +87,8 @@ pub answer_at-requires : goal.answer_at-requires
 answer_at-requires c =
     let i = (led (goal.at.answer_at-requires c).After-evaluation _ c.in-Settled.is).1 in
     let o = around c.requires.0 c.loop-n.invariant.1 in
-    (around c.requires.0 i, held_for _ (holding (goal.at.answer_at-requires c).Joined-not-is_held) o (held (goal.at.answer_at-requires c).Joined-not-is_held).taken i, rw (to_z-of_z c.ranges.height) c.requires.1)
+    let j = (goal.at.answer_at-requires c).Joined-not-is_held in
+    (around c.requires.0 i, held_for _ (holding j) o (held j).taken i, rw (to_z-of_z c.ranges.height) c.requires.1)
 
 pub returns-in-Settled : goal.returns-in-Settled
 unfolding out

@@ -56,7 +56,9 @@ returns-then-not-fix_passes c = rw (question7_is (goal.at.returns-then-not-fix_p
 
 pub returns-then-not-in_bounds : goal.returns-then-not-in_bounds
 unfolding convert_over
-returns-then-not-in_bounds c = rw (question7_yes (goal.at.returns-then-not-in_bounds c).Else-not-fix_passes, question8_is (goal.at.returns-then-not-in_bounds c).After-in_bounds _ c.if-not-in_bounds.true) refl
+returns-then-not-in_bounds c =
+    let at = goal.at.returns-then-not-in_bounds c in
+    rw (question7_yes at.Else-not-fix_passes, question8_is at.After-in_bounds _ c.if-not-in_bounds.true) refl
 
 pub out_from-requires : goal.out_from-requires
 out_from-requires c = arm_requires (goal.at.out_from-requires c).Else-not-in_bounds _ c.in-Out.is

@@ -20,7 +20,8 @@ grid s = grid_of s.args.image.now s.args.l
 abbrev over : Start → Source → Outcome Accepted
 over s source = convert_over s.args.way source s.args.p s.args.height
 
-bounded : (c : After-convert_bounded-a) → answer_of c.convert_bounded-a.result ≡ over (goal.at.After-convert_bounded-a c).Start (bounded_source (grid (goal.at.After-convert_bounded-a c).Start))
+bounded : (c : After-convert_bounded-a) → let s = (goal.at.After-convert_bounded-a c).Start in
+    answer_of c.convert_bounded-a.result ≡ over s (bounded_source (grid s))
 bounded c = rw (to_z-of_z c.ranges.height) at c.convert_bounded-a.ensures
 
 -- whether it ended past the edge
@@ -33,7 +34,9 @@ seven : (c : Then-is_past_edge) → let s = c.args in question7 (height_limit s.
 seven c =
     let o = c.requires in
     let u = c.if-l.true in
-    past_limits (grid (goal.at.Then-is_past_edge c).Start) (o.apart u) (o.not_nested u) c.args.way c.args.p c.args.height (past (goal.at.Then-is_past_edge c).After-is_past_edge _ c.if-is_past_edge.true)
+    let at = goal.at.Then-is_past_edge c in
+    let e = past at.After-is_past_edge _ c.if-is_past_edge.true in
+    past_limits (grid at.Start) (o.apart u) (o.not_nested u) c.args.way c.args.p c.args.height e
 
 pub convert_anywhere-requires : goal.convert_anywhere-requires
 convert_anywhere-requires c =
@@ -43,12 +46,17 @@ convert_anywhere-requires c =
 pub returns-then-is_past_edge : goal.returns-then-is_past_edge
 unfolding convert_over
 returns-then-is_past_edge c =
-    rw (of_unbounded (grid (goal.at.returns-then-is_past_edge c).Start) c.if-l.true, seven (goal.at.returns-then-is_past_edge c).Then-is_past_edge) (rw (to_z-of_z c.ranges.height) at c.convert_anywhere.ensures)
+    let at = goal.at.returns-then-is_past_edge c in
+    rw (of_unbounded (grid at.Start) c.if-l.true, seven at.Then-is_past_edge)
+    (rw (to_z-of_z c.ranges.height) at c.convert_anywhere.ensures)
 
 pub returns-else-is_past_edge : goal.returns-else-is_past_edge
 returns-else-is_past_edge c =
     let o = c.requires in
     let u = c.if-l.true in
     let a = c.args in
-    let same = same_conversion (grid (goal.at.returns-else-is_past_edge c).Start) (o.apart u) (o.not_nested u) a.way a.p a.height (past (goal.at.returns-else-is_past_edge c).After-is_past_edge _ c.if-is_past_edge.false) in
-    bounded (goal.at.returns-else-is_past_edge c).After-convert_bounded-a ∙ sym same ∙ ap (over (goal.at.returns-else-is_past_edge c).Start) (sym (of_unbounded (grid (goal.at.returns-else-is_past_edge c).Start) u))
+    let at = goal.at.returns-else-is_past_edge c in
+    let s = at.Start in
+    let e = past at.After-is_past_edge _ c.if-is_past_edge.false in
+    let same = same_conversion (grid s) (o.apart u) (o.not_nested u) a.way a.p a.height e in
+    bounded at.After-convert_bounded-a ∙ sym same ∙ ap (over s) (sym (of_unbounded (grid s) u))
