@@ -16,7 +16,7 @@ use Rattle.rules.specs.Limits.{SmallGeometry}
 use Rattle.rules.specs.Files.{geometry_numbers}
 
 bound_is : (z : ℤ) → nat_abs z ≤ longitude_limit → to_z w64 (of_z w64 z) ≡ z
-bound_is z h = to_z-of_z (omega (zarith, size z))
+bound_is z h = to_z-of_z {w = w64} (omega (zarith, size z))
 
 pub numbers_read : (g : Geometry) → SmallGeometry g →
     let latitude = g.latitude in
