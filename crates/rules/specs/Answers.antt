@@ -1,6 +1,6 @@
 -- Document 01, "Questions in order": an answer is its values or a question's number alone. What an enum of the code says in these terms
--- stands with the rule that it answers: openedOf (Questions), height_lookup_of (Lookup), answerOf (Ways), checked_of (Check), readingOf and
--- writing_of (Notation), trip_of (Trip), file_answer_of and grids_answer_of (Files).
+-- stands with the rule that it answers: opened_of (Questions), height_lookup_of (Lookup), answer_of (Ways), checked_of (Check), reading_of
+-- and writing_of (Notation), trip_of (Trip), file_answer_of and grids_answer_of (Files).
 use Rattle.std.specs.Prelude.{Bool, true, false, ℕ, ℤ, pos}
 use Rattle.rules.specs.declared.Refusal.{Refusal}
 use Rattle.rules.specs.declared.Refusal.TheVariants.{ImageLength, Edition, NodeCount, Spacing, GridBounds, NodeBytes}
