@@ -1,6 +1,6 @@
 -- Demand 3, the return promise (document 01, "Grid check"), what of it holds with a dense grid (document 02, note 5), and what holds of
 -- kind 2 without a margin (note 6). Answered means with values. A trip hands the second way the two angles and the height that the first
--- one answered. Its whole statement is `Promised`, which is proved: `promise`, crates/returning/specs/Return.antt.
+-- one answered. Its whole statement is `Promised`, which is proved: `promise`, crates/returning/proofs/Return.antt.
 use Rattle.std.specs.Prelude.{true, false, cond, List, ◌≡◌, ℕ, ◌≤◌, ℤ, pos, nat_abs, ◌+ℤ◌, ◌-ℤ◌, ◌≤ℤ◌}
 use Rattle.rules.specs.declared.Geometry.{Geometry}
 use Rattle.rules.specs.declared.Layout.{Layout}
