@@ -2,115 +2,98 @@
 // has no height. Questions 8, 10 and 15 are not put.
 #![tactic(auto)]
 
-ghost use Rattle.std.specs.Prelude.{◌≡◌, ◌≤◌, nat_abs};
+ghost use Rattle.std.specs.Prelude.{◌≡◌, ◌≤◌, nat_abs, ◌+ℤ◌};
 ghost use Rattle.rules.specs.Units.{out_height_limit, back_height_limit};
-ghost use Rattle.rules.specs.Image.{grid_of};
 ghost use Rattle.rules.specs.Limits.{PointWithin, CorrectionWithin};
-ghost use Rattle.rules.specs.Lookup.{height_lookup_of};
 ghost use Rattle.rules.specs.Ways as ways;
-ghost use Rattle.source.specs.Asked.{FoundWithin};
-ghost use Rattle.out.specs.Answer.{answer_from};
-ghost use Rattle.anywhere.specs.Unbounded.{OpenAnywhere, back_from, outside};
+ghost use Rattle.image.specs.Fit.{grid_in};
+ghost use Rattle.source.specs.Asked.{HeightWithin};
+ghost use Rattle.anywhere.specs.Unbounded.{outside};
 
 use back::added;
 use geometry::in_bounds;
-use grids::{CorrectionLookup, corrections_or_zero, height_or_none};
-use out::position_below;
-use rules::{
-    Answer, Correction, HeightLookup, Layout, MOST_EVALUATIONS, Point, Refusal, STOP_DISTANCE, Way,
-};
+use grids::{corrections_or_zero, height_or_none};
+use image::FitImage;
+use lookup::PointValues;
+use out::answer_with;
+use rules::{Converted, Correction, Fix, MOST_EVALUATIONS, Refusal, STOP_DISTANCE, Way};
 use turns::{is_settled, moved};
 
 // A conversion after question 7. Outside the bounds the corrections are zero, so that a point is its own answer either way, after one
 // evaluation.
-pub fn convert_anywhere(way: Way, image: &[u8], l: Layout, p: Point, height: i64) -> Answer
-    requires { OpenAnywhere image.now l p × (nat_abs height ≤ ways.height_limit way) }
-    ensures { ways.answer_of result ≡ ways.way_of way (ways.unbounded_source (grid_of image.now l)) p height }
+#[tactic(auto, using(crate::proofs::Evaluations::outside_anywhere))]
+pub fn convert_anywhere(way: Way, image: &FitImage<'_>, fix: Fix) -> Result<Converted, Refusal>
+    requires { PointWithin fix.point × (nat_abs fix.height ≤ ways.height_limit way) }
+    ensures { ways.answer_of result ≡ ways.way_of way (ways.unbounded_source (grid_in image.now)) fix.point fix.height }
 {
-    if !in_bounds(l.latitude.geometry, p) {
-        return convert_outside(way, height_or_none(image, l.height, p), p, height);
+    if !in_bounds(image.layout.latitude.geometry, fix.point) {
+        let found = height_or_none(image.bytes, image.layout.height, fix.point)?;
+        return Ok(convert_outside(way, found, fix));
     }
     match way {
-        Way::Out => out_anywhere(image, l, p, height),
-        Way::Back => back_anywhere(image, l, p, height),
+        Way::Out => out_anywhere(image, fix),
+        Way::Back => back_anywhere(image, fix),
     }
 }
 
 // The answer of a point outside the bounds, by what the lookup of the quasi-geoid height there found.
-fn convert_outside(way: Way, found: HeightLookup, p: Point, height: i64) -> Answer
-    requires { FoundWithin (height_lookup_of found) × PointWithin p × (nat_abs height ≤ ways.height_limit way) }
-    ensures { ways.answer_of result ≡ outside way (height_lookup_of found) p height }
+fn convert_outside(way: Way, found: Option<i64>, fix: Fix) -> Converted
+    requires { HeightWithin found × PointWithin fix.point × (nat_abs fix.height ≤ ways.height_limit way) }
+    ensures { ways.accepted_of result ≡ outside way fix.point fix.height found }
 {
+    let none = Correction {
+        latitude: 0,
+        longitude: 0,
+    };
     match way {
-        Way::Out => answer_with(found, p, height, 1),
-        Way::Back => added_with(
-            found,
-            p,
-            height,
-            Correction {
-                latitude: 0,
-                longitude: 0,
-            },
-        ),
+        Way::Out => answer_with(found, fix, 1),
+        Way::Back => added_with(none, found, fix),
     }
 }
 
-// The way out: at most five evaluations, each from the point that the one before led to.
-fn out_anywhere(image: &[u8], l: Layout, p: Point, height: i64) -> Answer
-    requires { OpenAnywhere image.now l p × (nat_abs height ≤ out_height_limit) }
-    ensures { ways.answer_of result ≡ ways.out (ways.unbounded_source (grid_of image.now l)) p height }
+// The way out: at most five evaluations, each from the point that the one before led to. The loop of `out::out_from` holds a cell: one
+// function of both would take the evaluation as a closure over that cell and hand it back for the height, and be longer than this.
+fn out_anywhere(image: &FitImage<'_>, fix: Fix) -> Result<Converted, Refusal>
+    requires { PointWithin fix.point × (nat_abs fix.height ≤ out_height_limit) }
+    ensures { ways.answer_of result ≡ ways.out (ways.unbounded_source (grid_in image.now)) fix.point fix.height }
 {
-    let mut r = p;
-    let mut n: u64 = 0;
-    while n < MOST_EVALUATIONS {
-        match corrections_or_zero(image, l, r) {
-            CorrectionLookup::Refused(e) => {
-                return Answer::Refused(e);
-            }
-            CorrectionLookup::Found(c) => {
-                let q = moved(p, c);
-                if is_settled(STOP_DISTANCE, q, r) {
-                    return answer_with(height_or_none(image, l.height, q), q, height, n + 1);
-                }
-                r = q;
-            }
+    let mut r = fix.point;
+    for n in 0..MOST_EVALUATIONS {
+        let q = moved(fix.point, corrections_or_zero(image, r)?);
+        if is_settled(STOP_DISTANCE, q, r) {
+            let found = height_or_none(image.bytes, image.layout.height, q)?;
+            return Ok(answer_with(found, Fix { point: q, ..fix }, n + 1));
         }
-        n += 1;
+        r = q;
     }
-    Answer::Refused(Refusal::NotSettled)
+    Err(Refusal::NotSettled)
 }
 
-// The answer at q after so many evaluations, by what the lookup of the quasi-geoid height there found.
-fn answer_with(found: HeightLookup, q: Point, height: i64, count: u64) -> Answer
-    requires { FoundWithin (height_lookup_of found) × (nat_abs height ≤ out_height_limit) }
-    ensures { ways.answer_of result ≡ answer_from (height_lookup_of found) q height count }
+// The way back: the corrections and the quasi-geoid height at the point, added. `back::back_from` reads both before it weighs either; here
+// there may be no height.
+#[tactic(auto, using(crate::proofs::Evaluations::back_anywhere))]
+fn back_anywhere(image: &FitImage<'_>, fix: Fix) -> Result<Converted, Refusal>
+    requires { PointWithin fix.point × (nat_abs fix.height ≤ back_height_limit) }
+    ensures { ways.answer_of result ≡ ways.back (ways.unbounded_source (grid_in image.now)) fix.point fix.height }
 {
-    match found {
-        HeightLookup::Height(z) => Answer::Values(position_below(q, height, z, count)),
-        HeightLookup::NoHeight => Answer::WithoutHeight(position_below(q, 0, 0, count)),
-        HeightLookup::Refused(e) => Answer::Refused(e),
-    }
-}
-
-// The way back: the corrections and the quasi-geoid height at the point, added.
-fn back_anywhere(image: &[u8], l: Layout, q: Point, height: i64) -> Answer
-    requires { OpenAnywhere image.now l q × (nat_abs height ≤ back_height_limit) }
-    ensures { ways.answer_of result ≡ ways.back (ways.unbounded_source (grid_of image.now l)) q height }
-{
-    match corrections_or_zero(image, l, q) {
-        CorrectionLookup::Refused(e) => Answer::Refused(e),
-        CorrectionLookup::Found(c) => added_with(height_or_none(image, l.height, q), q, height, c),
-    }
+    let c = corrections_or_zero(image, fix.point)?;
+    let found = height_or_none(image.bytes, image.layout.height, fix.point)?;
+    Ok(added_with(c, found, fix))
 }
 
 // A point plus corrections, and its height by what the lookup of the quasi-geoid height there found.
-fn added_with(found: HeightLookup, q: Point, height: i64, c: Correction) -> Answer
-    requires { FoundWithin (height_lookup_of found) × PointWithin q × (nat_abs height ≤ back_height_limit) × CorrectionWithin c }
-    ensures { ways.answer_of result ≡ back_from (height_lookup_of found) q height c }
+fn added_with(correction: Correction, found: Option<i64>, fix: Fix) -> Converted
+    requires { CorrectionWithin correction × HeightWithin found × PointWithin fix.point × (nat_abs fix.height ≤ back_height_limit) }
+    ensures { ways.accepted_of result ≡ ways.answer_at (ways.plus fix.point correction) (λ z. fix.height +ℤ z) 1 found }
 {
     match found {
-        HeightLookup::Height(z) => Answer::Values(added(q, height, c, z)),
-        HeightLookup::NoHeight => Answer::WithoutHeight(added(q, 0, c, 0)),
-        HeightLookup::Refused(e) => Answer::Refused(e),
+        Some(height) => Converted::WithHeight(added(fix, PointValues { correction, height })),
+        None => Converted::WithoutHeight(added(
+            Fix { height: 0, ..fix },
+            PointValues {
+                correction,
+                height: 0,
+            },
+        )),
     }
 }

@@ -1,41 +1,39 @@
 // The way back over an opened image, from a Bessel point in the bounds and a NAP height to ETRS89.
 #![tactic(auto)]
 
-ghost use Rattle.std.specs.Prelude.{◌≡◌, ◌≤◌, nat_abs, ◌+ℤ◌};
+ghost use Rattle.std.specs.Prelude.{◌≡◌, true, ◌≤◌, nat_abs, ◌+ℤ◌};
 ghost use Rattle.rules.specs.Units.{back_height_limit, quasi_geoid_limit};
-ghost use Rattle.rules.specs.Image.{grid_of};
-ghost use Rattle.rules.specs.Limits.{OpenAround, PointWithin, CorrectionWithin};
+ghost use Rattle.rules.specs.Limits.{PointWithin, CorrectionWithin};
+ghost use Rattle.rules.specs.Lookup.{inside};
 ghost use Rattle.rules.specs.Ways as ways;
+ghost use Rattle.image.specs.Fit.{grid_in};
 
-use lookup::PointLookup;
-use rules::{Answer, Correction, Layout, Point, Position};
+use image::FitImage;
+use lookup::PointValues;
+use rules::{Converted, Fix, Position, Refusal};
 use source::look_up;
 
 // The way back after questions 7 and 8, over an opened image: the corrections and the quasi-geoid height at the point, added.
-pub fn back_from(image: &[u8], l: Layout, q: Point, height: i64) -> Answer
-    requires { OpenAround image.now l q × (nat_abs height ≤ back_height_limit) }
-    ensures { ways.answer_of result ≡ ways.back (ways.bounded_source (grid_of image.now l)) q height }
+#[tactic(auto, using(source::proofs::Sources::found_back))]
+pub fn back_from(image: &FitImage<'_>, fix: Fix) -> Result<Converted, Refusal>
+    requires { (inside (grid_in image.now).corrections fix.point ≡ true) × (nat_abs fix.height ≤ back_height_limit) }
+    ensures { ways.answer_of result ≡ ways.back (ways.bounded_source (grid_in image.now)) fix.point fix.height }
 {
-    match look_up(image, l, q) {
-        PointLookup::Values(v) => {
-            let c = v.correction;
-            Answer::Values(added(q, height, c, v.height))
-        }
-        PointLookup::Refused(r) => Answer::Refused(r),
-    }
+    let found = look_up(image, fix.point)?;
+    Ok(Converted::WithHeight(added(fix, found)))
 }
 
-// A point plus corrections and its height plus z, after one evaluation.
-pub fn added(q: Point, height: i64, c: Correction, z: i64) -> Position
-    requires { PointWithin q × (nat_abs height ≤ back_height_limit) × CorrectionWithin c × (nat_abs z ≤ quasi_geoid_limit) }
-    ensures { result ≡ ways.position (ways.plus q c) (height +ℤ z) 1 }
+// A point plus the corrections there, and its height plus the quasi-geoid height there, after one evaluation.
+#[tactic(auto, using(integers::specs::Machine::sum_back), unfolding(rules::specs::Ways::plus))]
+pub fn added(fix: Fix, found: PointValues) -> Position
+    requires { PointWithin fix.point × (nat_abs fix.height ≤ back_height_limit)
+        × (CorrectionWithin found.correction × (nat_abs found.height ≤ quasi_geoid_limit)) }
+    ensures { result ≡ ways.position (ways.plus fix.point found.correction) (fix.height +ℤ found.height) 1 }
 {
-    let latitude = q.latitude + c.latitude;
-    let longitude = q.longitude + c.longitude;
     Position {
-        latitude,
-        longitude,
-        height: height + z,
+        latitude: fix.point.latitude + found.correction.latitude,
+        longitude: fix.point.longitude + found.correction.longitude,
+        height: fix.height + found.height,
         count: 1,
     }
 }

@@ -5,20 +5,22 @@ use mathlib.Core.Path.{◌≡◌, refl, ap, ◌∙◌}
 use Prim.Native.Nat.{ℕ, suc, ◌+◌, ◌-◌, ◌*◌, ◌≤◌, ◌<◌}
 use native.Mathlib.Nat.{div-add-mod'}
 use native.Mathlib.Omega.{arith}
-use lib.IntN.{ℤ, pos, negsuc, nat_abs, ◌+ℤ◌, ◌-ℤ◌, ◌*ℤ◌}
+use lib.IntN.{ℤ, pos, negsuc, nat_abs, ◌+ℤ◌, ◌*ℤ◌}
 use lib.Signed.{lt_z}
 use Rattle.integers.specs.Distance.{abs_is}
-use Rattle.integers.specs.Difference.{up, down, order, var, lit, ◌⊕◌, ◌⊖◌, ◌⊗◌}
+use Rattle.integers.specs.Difference.{up, down, order, var, lit, ◌⊕◌, ◌⊗◌}
 use Rattle.integers.specs.Machine.{zarith}
 use Rattle.rules.specs.declared.Square.{Square}
-use Rattle.rules.specs.Units.{correction_limit}
 use Rattle.rules.specs.Bilinear.{weighted, bilinear}
 use Rattle.rules.specs.SixCases.{six_cases, rounded_by_cases}
 use Rattle.rules.proofs.SixCases.{six_cases_lem}
 use Rattle.bilinear.specs.declared.Quotient.{Quotient}
-use Rattle.bilinear.specs.Mean.{InCell, corner_quotient, quotient_most}
+use Rattle.rules.specs.declared.PlaceInCell.{PlaceInCell}
+use Rattle.rules.specs.declared.Spacings.{Spacings}
+use Rattle.bilinear.specs.declared.Raised.{Raised}
+use Rattle.bilinear.specs.Mean.{InCell, Gaps, corner_quotient}
 use Rattle.bilinear.proofs.Mixes.{division, cell_area}
-use Rattle.bilinear.proofs.Gaps.{Gaps, weighted_above}
+use Rattle.bilinear.proofs.Gaps.{weighted_above}
 
 -- Numbers that make up a sum's absolute value as a quotient and a remainder do are these.
 by_division : (sum : ℤ) (quotient : ℕ) {remainder area : ℕ} {t : Bool} → lt_z sum (pos 0) ≡ t
@@ -49,22 +51,19 @@ whole_below_zero {area} h (negsuc n) k =
     let sum = var (negsuc n) ⊗ lit area ⊕ lit 0 in
     by_division (negsuc n *ℤ pos area +ℤ pos 0) (suc n) (omega (zarith, sum)) (omega (arith, abs_is sum)) h
 
--- A lowered quotient is not larger than `rounded_sum` takes.
-pub lowered_most : (base z : ℤ) (by n : ℕ) → nat_abs base ≤ correction_limit → by ≤ correction_limit → n ≤ 2 * correction_limit
-    → z ≡ (base -ℤ pos by) +ℤ pos n → nat_abs z ≤ quotient_most
-lowered_most base z by n h k l e = omega (arith, order, abs_is (var base), abs_is (var z), var base ⊖ lit by ⊕ lit n)
-
 -- What lies b areas above a sum with that quotient.
 areas_above : (b : ℤ) (whole rest area : ℕ) → (b +ℤ pos whole) *ℤ pos area +ℤ pos rest ≡ b *ℤ pos area +ℤ pos (whole * area + rest)
 areas_above b whole rest area =
     omega (arith, order, (var b ⊕ lit whole) ⊗ lit area ⊕ lit rest, var b ⊗ lit area ⊕ lit (whole * area + rest))
 
 -- The value of a cell's corners, from the quotient of their gaps: the rounded sum.
-module _ {c : Square} {u v P Q : ℕ} (cell : InCell u v P Q) where
-  pub value_is : {b z : ℤ} {sw se nw ne : ℕ} {q : Quotient} {r : ℤ} → Gaps b c sw se nw ne → q ≡ corner_quotient sw se nw ne u v P Q
-      → z ≡ b +ℤ pos q.whole → r ≡ rounded_by_cases (z *ℤ pos (P * Q) +ℤ pos q.rest) (P * Q) → r ≡ bilinear c u v P Q
+module _ {c : Square} {at : PlaceInCell} {s : Spacings} (cell : InCell s at) where
+  pub value_is : {b z : ℤ} {k : Raised} {q : Quotient} {r : ℤ} → Gaps b c k → q ≡ corner_quotient k at s → z ≡ b +ℤ pos q.whole
+      → r ≡ rounded_by_cases (z *ℤ pos (s.latitude * s.longitude) +ℤ pos q.rest) (s.latitude * s.longitude)
+      → r ≡ bilinear c at.u at.v s.latitude s.longitude
   unfolding bilinear
   value_is {q = q} {r = r} g e f d =
-      let sum : r ≡ rounded_by_cases (weighted c u v P Q) (P * Q) =
+      let area = s.latitude * s.longitude in
+      let sum : r ≡ rounded_by_cases (weighted c at.u at.v s.latitude s.longitude) area =
       rw (f, areas_above, e, div-add-mod', ← weighted_above cell g) at d in
-      sum ∙ six_cases_lem (weighted c u v P Q) (P * Q) (cell_area cell)
+      sum ∙ six_cases_lem (weighted c at.u at.v s.latitude s.longitude) area (cell_area cell)

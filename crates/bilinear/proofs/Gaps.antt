@@ -8,41 +8,26 @@ use mir.Val.{SFits, to_z, of_z}
 use mir.Facts.{to_z-of_z}
 use Rattle.integers.specs.Distance.{abs_is}
 use Rattle.integers.specs.Machine.{zarith}
-use Rattle.integers.specs.Difference.{up, down, order, Difference, var, lit, ◌⊕◌, ◌⊖◌, ◌⊗◌}
+use Rattle.integers.specs.Difference.{up, down, order, Difference, var, lit, ◌⊕◌, ◌⊗◌}
 use Rattle.rules.specs.declared.Square.{Square}
 use Rattle.rules.specs.Units.{correction_limit}
 use Rattle.rules.specs.Limits.{CornersWithin}
 use Rattle.rules.specs.Bilinear.{weighted}
 use Rattle.rules.proofs.Weights.{weights}
-use Rattle.bilinear.specs.Mean.{InCell, Around, Below, corner_mix}
-
--- Corner values by how far they lie above b.
-pub record Gaps (b : ℤ) (c : Square) (sw se nw ne : ℕ) : Type 0 where
-  pub southwest : c.southwest ≡ b +ℤ pos sw
-  pub southeast : c.southeast ≡ b +ℤ pos se
-  pub northwest : c.northwest ≡ b +ℤ pos nw
-  pub northeast : c.northeast ≡ b +ℤ pos ne
+use Rattle.rules.specs.declared.PlaceInCell.{PlaceInCell}
+use Rattle.rules.specs.declared.Spacings.{Spacings}
+use Rattle.bilinear.specs.declared.Raised.{Raised}
+use Rattle.bilinear.specs.Mean.{InCell, Gaps, Below, mix, mixed}
 
 -- A corner is read back by the machine as it is.
 pub read_corner : (z : ℤ) → nat_abs z ≤ correction_limit → to_z w64 (of_z w64 z) ≡ z
 read_corner z h = let f : SFits w64 z = omega (zarith, abs_is (var z)) in to_z-of_z f
 
--- Each corner is around zero.
-pub around_zero : (x : ℤ) → nat_abs x ≤ correction_limit → Around (pos 0) correction_limit x
-around_zero x h =
-    record {
-      base_within = omega arith;
-      by_most = omega arith;
-      within = h;
-      distance = omega (arith, order, abs_is (var x), abs_is (var x ⊖ lit 0));
-    }
-
 -- Of values within a limit of zero, no gap is wider than twice the limit.
 gap_most : {M n : ℕ} (b x : ℤ) → nat_abs b ≤ M → nat_abs x ≤ M → x ≡ b +ℤ pos n → n ≤ 2 * M
 gap_most {M} {n} b x h k e = omega (arith, order, var b ⊕ lit n, abs_is (var b), abs_is (var x))
 
-pub gaps_most : {M : ℕ} {c : Square} {sw se nw ne : ℕ} (b : ℤ) → nat_abs b ≤ M → CornersWithin M c → Gaps b c sw se nw ne
-    → Below (2 * M) sw se nw ne
+pub gaps_most : {M : ℕ} {c : Square} {r : Raised} (b : ℤ) → nat_abs b ≤ M → CornersWithin M c → Gaps b c r → Below (2 * M) r
 gaps_most {c = c} b h w g =
     record {
       southwest = gap_most b c.southwest h w.southwest g.southwest;
@@ -71,12 +56,18 @@ sum_above x y z t b k l m n a u e v K ex ey ez et h =
     (omega (arith, ap (λ (i : ℕ). up b * i) h, ap (λ (i : ℕ). down b * i) h))
 
 -- So the sum of the corners is b times the area above that of the gaps.
-pub weighted_above : {c : Square} {u v P Q : ℕ} {b : ℤ} {sw se nw ne : ℕ} → InCell u v P Q → Gaps b c sw se nw ne
-    → weighted c u v P Q ≡ b *ℤ pos (P * Q) +ℤ pos (corner_mix sw se nw ne u v P Q)
+pub weighted_above : {c : Square} {at : PlaceInCell} {s : Spacings} {b : ℤ} {r : Raised} → InCell s at → Gaps b c r
+    → let rows = mixed r at.v s.longitude in
+    weighted c at.u at.v s.latitude s.longitude
+    ≡ b *ℤ pos (s.latitude * s.longitude) +ℤ pos (mix rows.south rows.north at.u s.latitude)
 unfolding weighted
-weighted_above {c} {u} {v} {P} {Q} {b} {sw} {se} {nw} {ne} cell g =
+weighted_above {c} {at} {s} {b} {r} cell g =
+    let P = s.latitude in
+    let Q = s.longitude in
+    let rows = mixed r at.v Q in
     let sum =
-    sum_above c.southwest c.southeast c.northwest c.northeast b sw se nw ne (P - u) u (Q - v) v (P * Q)
+    sum_above c.southwest c.southeast c.northwest c.northeast b r.southwest r.southeast r.northwest r.northeast
+    (P - at.u) at.u (Q - at.v) at.v (P * Q)
     g.southwest g.southeast g.northwest g.northeast (weights cell.u_most cell.v_most)
     in
-    omega (arith, order, sum, var b ⊗ lit (P * Q) ⊕ lit (corner_mix sw se nw ne u v P Q))
+    omega (arith, order, sum, var b ⊗ lit (P * Q) ⊕ lit (mix rows.south rows.north at.u P))

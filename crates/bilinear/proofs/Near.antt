@@ -12,7 +12,11 @@ use Rattle.integers.specs.Distance.{abs_is}
 use Rattle.integers.specs.Difference.{order, var, lit, ◌⊕◌, ◌⊖◌}
 use Rattle.rules.specs.declared.Square.{Square}
 use Rattle.rules.specs.Units.{within, correction_limit}
-use Rattle.bilinear.specs.Mean.{InCell, mix, raise, near_limit, near_area, near, Mixable, Below}
+use Rattle.rules.specs.declared.PlaceInCell.{PlaceInCell}
+use Rattle.rules.specs.declared.Spacings.{Spacings}
+use Rattle.rules.specs.Limits.{CornersWithin}
+use Rattle.bilinear.specs.declared.Raised.{Raised}
+use Rattle.bilinear.specs.Mean.{InCell, Around, CornersAround, Gaps, mixed, raise, near_limit, near_area, near, Mixable, Below}
 use Rattle.bilinear.proofs.Mixes.{mix_le}
 
 -- What the test says.
@@ -36,34 +40,47 @@ near_to c area e =
       area_most = leb-true _ _ (and_right (leb 1 area) _ (and_right (se && (nw && ne)) _ e));
     }
 
--- A near corner, raised, is below 2^16; the south-west one itself is 2^15.
-pub raised_most : (sw x : ℤ) (n : ℕ) → nat_abs (x -ℤ sw) ≤ near_limit → x ≡ (sw -ℤ pos raise) +ℤ pos n → n ≤ raise + near_limit
+-- A near corner, raised, is below 2^16.
+raised_most : (sw x : ℤ) (n : ℕ) → nat_abs (x -ℤ sw) ≤ near_limit → x ≡ (sw -ℤ pos raise) +ℤ pos n → n ≤ raise + near_limit
 raised_most sw x n h e = omega (arith, order, abs_is (var x ⊖ var sw), var sw ⊖ lit raise ⊕ lit n)
 
-pub raised_back : (sw : ℤ) → sw ≡ (sw -ℤ pos raise) +ℤ pos raise
-raised_back sw = omega (arith, order, var sw ⊖ lit raise ⊕ lit raise)
+module _ (c : Square) (area : ℕ) (w : CornersWithin correction_limit c) (n : NearTo c area) where
+  -- Near corners are around the south-west one.
+  around_near : {x : ℤ} → nat_abs x ≤ correction_limit → nat_abs (x -ℤ c.southwest) ≤ near_limit → Around c.southwest raise x
+  around_near h k = record { base_within = w.southwest; by_most = omega arith; within = h; distance = omega arith }
+
+  pub near_around : CornersAround c.southwest raise c
+  near_around =
+      record {
+        southwest = around_near w.southwest (omega (arith, order, abs_is (var c.southwest ⊖ var c.southwest)));
+        southeast = around_near w.southeast n.southeast;
+        northwest = around_near w.northwest n.northwest;
+        northeast = around_near w.northeast n.northeast;
+      }
+
+  -- Raised, they are below 2^16.
+  pub raised_below : {r : Raised} → Gaps (c.southwest -ℤ pos raise) c r → Below (raise + near_limit) r
+  raised_below g =
+      record {
+        southwest = raised_most c.southwest c.southwest _ (omega (arith, order, abs_is (var c.southwest ⊖ var c.southwest))) g.southwest;
+        southeast = raised_most c.southwest c.southeast _ n.southeast g.southeast;
+        northwest = raised_most c.southwest c.northwest _ n.northwest g.northwest;
+        northeast = raised_most c.southwest c.northeast _ n.northeast g.northeast;
+      }
 
 -- Raised near corners are not larger than corners can be.
-pub below_most : {sw se nw ne : ℕ} → Below (raise + near_limit) sw se nw ne → Below (2 * correction_limit) sw se nw ne
+pub below_most : {r : Raised} → Below (raise + near_limit) r → Below (2 * correction_limit) r
 below_most b = record { southwest = omega arith; southeast = omega arith; northwest = omega arith; northeast = omega arith }
 
--- The rows of raised corners, and their mix.
-module _ {se nw ne u v P Q : ℕ} (b : Below (raise + near_limit) raise se nw ne) (cell : InCell u v P Q) (small : P * Q ≤ near_area) where
-  abbrev south_mix : ℕ
-  south_mix = mix raise se v Q
-
-  abbrev north_mix : ℕ
-  north_mix = mix nw ne v Q
-
-  south_most : south_mix ≤ Q * (raise + near_limit)
-  south_most = mix_le _ cell.v_most b.southwest b.southeast
-
-  north_most : north_mix ≤ Q * (raise + near_limit)
-  north_most = mix_le _ cell.v_most b.northwest b.northeast
-
-  pub rows_mixable : Mixable south_mix north_mix u P
-  rows_mixable =
-      record {
-        part = cell.u_most;
-        fits = omega (arith, mul-le-mul_left P (max-le south_most north_most), mul-le-mul_right (raise + near_limit) small);
-      }
+-- The rows of raised corners can be mixed.
+pub rows_mixable : {r : Raised} {at : PlaceInCell} {s : Spacings} → Below (raise + near_limit) r → InCell s at
+    → s.latitude * s.longitude ≤ near_area
+    → let rows = mixed r at.v s.longitude in Mixable rows.south rows.north at.u s.latitude
+rows_mixable {r} {at} {s} b cell small =
+    let most = raise + near_limit in
+    let south = mix_le most cell.v_most b.southwest b.southeast in
+    let north = mix_le most cell.v_most b.northwest b.northeast in
+    record {
+      part = cell.u_most;
+      fits = omega (arith, mul-le-mul_left s.latitude (max-le south north), mul-le-mul_right most small);
+    }

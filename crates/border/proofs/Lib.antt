@@ -1,3 +1,2 @@
 -- Laws of planes, for the functions that make lines of them and that ask these.
-pub mod SecondRow
 pub mod PlaneLines

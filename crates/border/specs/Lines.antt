@@ -1,9 +1,9 @@
 -- The rows and the columns of a plane as grid lines, the values of a line in an image, questions 21 and 22 of two sides, and that lines lie
 -- in the image.
-use Rattle.std.specs.Prelude.{Bool, List, ℕ, ◌+◌, ◌-◌, ◌*◌, ◌≤◌, ◌<◌, ℤ}
+use Rattle.std.specs.Prelude.{Bool, ◌&&◌, List, ℕ, ◌+◌, ◌-◌, ◌*◌, ◌≤◌, ◌<◌, ℤ}
 use Rattle.rules.specs.declared.Plane.{Plane}
 use Rattle.rules.specs.declared.Run.{Run}
-use Rattle.rules.specs.Units.{longitude_limit}
+use Rattle.rules.specs.Units.{longitude_limit, within}
 use Rattle.rules.specs.Image.{columns}
 use Rattle.rules.specs.Limits.{AxisPasses}
 use Rattle.rules.specs.Check.{both_zero}
@@ -41,6 +41,10 @@ line_value b l line = run_value b (line_run l line)
 -- The first and the last of the dense lines agree with the coarse ones on which they lie.
 abbrev pub lines_agree : List ℕ → (coarse dense : Lines) → Bool
 lines_agree b c d = sides_agree c.across d.across c.along d.along (line_value b c) (line_value b d)
+
+-- A node's values on two runs are zero.
+abbrev pub are_zero : List ℕ → (first last : Run) (node : ℕ) → Bool
+are_zero b first last node = within 0 (run_value b first node) && within 0 (run_value b last node)
 
 -- The first and the last line are zero.
 abbrev pub sides_zero : List ℕ → Lines → Bool

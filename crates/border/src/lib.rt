@@ -5,18 +5,20 @@
 
 ghost use Rattle.std.specs.Prelude.{true, ◌≡◌, ◌-◌, ◌*◌, ◌≤◌, ◌<◌, length};
 ghost use Rattle.rules.specs.Units.{longitude_limit, spacing_most};
-ghost use Rattle.rules.specs.Image.{plane, grid_of};
-ghost use Rattle.rules.specs.Limits.{AxisPasses, InImage, Open};
+ghost use Rattle.rules.specs.Image.{plane};
+ghost use Rattle.rules.specs.Limits.{AxisPasses, InImage};
 ghost use Rattle.rules.specs.Dense.{on_line, axis_aligned, question20};
 ghost use Rattle.rules.specs.Check.{border_agrees, question21, both_zero, border_zero, question22};
-ghost use Rattle.steps.specs.Walk.{RunInside, run_value, Narrow};
+ghost use Rattle.image.specs.Fit.{grid_in};
+ghost use Rattle.steps.specs.Walk.{ValueInside, RunInside, run_value, Narrow};
 ghost use Rattle.returning.specs.Sides.{node_close, node_agrees, side_agrees, line_of};
-ghost use Rattle.border.specs.Lines.{rows_of, columns_of, line_run, line_value, lines_agree, sides_zero, LinesInside};
+ghost use Rattle.border.specs.Lines.{rows_of, columns_of, line_run, line_value, lines_agree, are_zero, sides_zero, LinesInside};
 
 use axis::{far_bound, locate, offset_on};
+use image::FitImage;
 use nodes::beside;
-use numbers::{distance, is_within};
-use rules::{Axis, Layout, Plane, Run};
+use numbers::is_within;
+use rules::{Axis, Plane, Run};
 use steps::run_value;
 
 // The nodes of a plane as grid lines, its rows or its columns: a line for each node of the axis `across`, and on it a node for each of the
@@ -31,15 +33,17 @@ struct Lines {
 }
 
 // Both corrections of every node on the border.
-pub fn border_agrees(image: &[u8], l: Layout) -> bool
-    requires { Open (length image.now) l × (l.nested ≡ true) }
-    ensures { result ≡ question21 (grid_of image.now l) }
+pub fn border_agrees(image: &FitImage<'_>) -> bool
+    requires { image.now.layout.nested ≡ true }
+    ensures { result ≡ question21 (grid_in image.now) }
 {
-    if plane_agrees(image, l.latitude, l.dense) {
-        plane_agrees(image, l.longitude, beside(image.len() as u64, l.dense))
-    } else {
-        false
-    }
+    let l = image.layout;
+    plane_agrees(image.bytes, l.latitude, l.dense)
+        && plane_agrees(
+            image.bytes,
+            l.longitude,
+            beside(image.bytes.len() as u64, l.dense),
+        )
 }
 
 // One correction of every node on the border: its first and its last row, then its first and its last column.
@@ -50,25 +54,20 @@ fn plane_agrees(image: &[u8], coarse: Plane, dense: Plane) -> bool
         ≡ border_agrees coarse.geometry dense.geometry (plane image.now coarse) (plane image.now dense) }
 {
     let size = image.len() as u64;
-    if sides_agree(image, rows_of(size, coarse), rows_of(size, dense)) {
-        sides_agree(image, columns_of(size, coarse), columns_of(size, dense))
-    } else {
-        false
-    }
+    sides_agree(image, rows_of(size, coarse), rows_of(size, dense))
+        && sides_agree(image, columns_of(size, coarse), columns_of(size, dense))
 }
 
-// The rows of a plane, and its columns, in an image of so many bytes.
+// The rows of a plane, and its columns, in an image of so many bytes. Two functions: what is the step of the one is the other's stride.
 fn rows_of(size: u64, p: Plane) -> Lines
     requires { InImage size p }
     ensures { result ≡ rows_of p }
 {
-    let across = p.geometry.latitude;
-    let along = p.geometry.longitude;
     Lines {
-        across,
-        along,
+        across: p.geometry.latitude,
+        along: p.geometry.longitude,
         first: p.first,
-        apart: p.stride * along.count,
+        apart: p.stride * p.geometry.longitude.count,
         stride: p.stride,
     }
 }
@@ -77,14 +76,12 @@ fn columns_of(size: u64, p: Plane) -> Lines
     requires { InImage size p }
     ensures { result ≡ columns_of p }
 {
-    let across = p.geometry.longitude;
-    let along = p.geometry.latitude;
     Lines {
-        across,
-        along,
+        across: p.geometry.longitude,
+        along: p.geometry.latitude,
         first: p.first,
         apart: p.stride,
-        stride: p.stride * across.count,
+        stride: p.stride * p.geometry.longitude.count,
     }
 }
 
@@ -94,18 +91,10 @@ fn sides_agree(image: &[u8], coarse: Lines, dense: Lines) -> bool
         × (axis_aligned coarse.across dense.across ≡ true) × (axis_aligned coarse.along dense.along ≡ true) }
     ensures { result ≡ lines_agree image.now coarse dense }
 {
-    let a = dense.across;
-    if side_agrees(image, coarse, line_of(coarse.across, a.start), dense, 0) {
-        side_agrees(
-            image,
-            coarse,
-            line_of(coarse.across, far_bound(a)),
-            dense,
-            a.count - 1,
-        )
-    } else {
-        false
-    }
+    let start = line_of(coarse.across, dense.across.start);
+    let far = line_of(coarse.across, far_bound(dense.across));
+    side_agrees(image, coarse, start, dense, 0)
+        && side_agrees(image, coarse, far, dense, dense.across.count - 1)
 }
 
 // The grid line of an angle that lies on one, counted from the axis's start.
@@ -125,9 +114,13 @@ fn side_agrees(image: &[u8], coarse: Lines, line: u64, dense: Lines, side: u64) 
         (line_value image.now coarse line) (line_value image.now dense side) }
 {
     let size = image.len() as u64;
-    let parent = line_run(size, coarse, line);
-    let border = line_run(size, dense, side);
-    nodes_agree(image, parent, coarse.along, border, dense.along)
+    nodes_agree(
+        image,
+        line_run(size, coarse, line),
+        coarse.along,
+        line_run(size, dense, side),
+        dense.along,
+    )
 }
 
 // The values of a line, in an image of so many bytes.
@@ -141,20 +134,19 @@ fn line_run(size: u64, l: Lines, line: u64) -> Run
     }
 }
 
-// The nodes along a run, beside the values of a run on the same line of the coarse grid.
+// The nodes along a run, beside the values of a run on the same line of the coarse grid. By a `for`: as a closure of `all` the test would
+// need clauses of its own, which say once more what the loop's invariant says.
 fn nodes_agree(image: &[u8], parent: Run, coarse: Axis, border: Run, dense: Axis) -> bool
     requires { AxisPasses longitude_limit coarse × AxisPasses longitude_limit dense × (axis_aligned coarse dense ≡ true)
         × RunInside (length image.now) parent coarse.count × RunInside (length image.now) border dense.count }
     ensures { result ≡ side_agrees coarse dense (run_value image.now parent) (run_value image.now border) }
 {
     let start = offset_on(coarse, dense.start);
-    let mut i = 0;
-    while i < dense.count {
+    for i in 0..dense.count {
         let x = start + i * dense.spacing;
         if !node_agrees(image, parent, coarse, x, run_value(image, border, i)) {
             return false;
         }
-        i += 1;
     }
     true
 }
@@ -177,19 +169,15 @@ fn is_close(f: i64, e: i64, next: i64, part: u64, spacing: u64) -> bool
     ensures { result ≡ node_close f e next part spacing }
 {
     let exact = e * (spacing - part) as i64 + next * part as i64;
-    distance(f * spacing as i64, exact) <= spacing
+    (f * spacing as i64).abs_diff(exact) <= spacing
 }
 
 // Both corrections of every node on the border of the corrections.
-pub fn border_is_zero(image: &[u8], l: Layout) -> bool
-    requires { Open (length image.now) l }
-    ensures { result ≡ question22 (grid_of image.now l) }
+pub fn border_is_zero(image: &FitImage<'_>) -> bool
+    ensures { result ≡ question22 (grid_in image.now) }
 {
-    if plane_is_zero(image, l.latitude) {
-        plane_is_zero(image, l.longitude)
-    } else {
-        false
-    }
+    plane_is_zero(image.bytes, image.layout.latitude)
+        && plane_is_zero(image.bytes, image.layout.longitude)
 }
 
 // One correction of every node on the border: its first and its last row, then its first and its last column.
@@ -198,11 +186,7 @@ fn plane_is_zero(image: &[u8], p: Plane) -> bool
     ensures { result ≡ border_zero p.geometry (plane image.now p) }
 {
     let size = image.len() as u64;
-    if sides_are_zero(image, rows_of(size, p)) {
-        sides_are_zero(image, columns_of(size, p))
-    } else {
-        false
-    }
+    sides_are_zero(image, rows_of(size, p)) && sides_are_zero(image, columns_of(size, p))
 }
 
 // Two opposite sides: the first and the last line.
@@ -216,20 +200,23 @@ fn sides_are_zero(image: &[u8], l: Lines) -> bool
     runs_are_zero(image, first, last, l.along.count)
 }
 
-// Every value of two runs of so many.
+// Every value of two runs of so many. By a `for`, likewise.
 fn runs_are_zero(image: &[u8], first: Run, last: Run, count: u64) -> bool
     requires { RunInside (length image.now) first count × RunInside (length image.now) last count }
     ensures { result ≡ both_zero count (run_value image.now first) (run_value image.now last) }
 {
-    let mut node = 0;
-    while node < count {
-        if !is_within(run_value(image, first, node), 0) {
+    for node in 0..count {
+        if !are_zero(image, first, last, node) {
             return false;
         }
-        if !is_within(run_value(image, last, node), 0) {
-            return false;
-        }
-        node += 1;
     }
     true
+}
+
+// Both values of a node.
+fn are_zero(image: &[u8], first: Run, last: Run, node: u64) -> bool
+    requires { ValueInside (length image.now) first node × ValueInside (length image.now) last node }
+    ensures { result ≡ are_zero image.now first last node }
+{
+    is_within(run_value(image, first, node), 0) && is_within(run_value(image, last, node), 0)
 }

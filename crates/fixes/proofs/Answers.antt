@@ -5,18 +5,34 @@ use mathlib.Core.Path.{◌≡◌, refl, sym, ◌∙◌}
 use Prim.Native.Nat.{ℕ, zero, suc, ◌+◌, ◌*◌, ◌-◌, ◌≤◌, ◌<◌}
 use native.Mathlib.Omega.{arith}
 use lib.IntN.{ℤ}
-use lib.ListN.{length, take, drop, length-append}
+use lib.ListN.{length, take, drop, get_or, length-append}
+use Rattle.std.specs.Simd.{first_chunks}
 use lib.Seq.{take_all, take_at, take-add, drop-append-add}
 use Rattle.rules.specs.declared.Point.{Point}
 use Rattle.rules.specs.Answers.{Outcome, values, number}
 use Rattle.rules.specs.Ways.{Accepted}
 use Rattle.rules.specs.Lists.{five_of, answers_of}
 use Rattle.rules.proofs.Lent.{front}
-use Rattle.fixes.specs.Fix.{fix_point, at_fix}
+use Rattle.fixes.specs.Fix.{fix_of, fix_point, fix_height, at_fix}
 
 five_long : (a : Outcome Accepted) → length (five_of a) ≡ 5
 five_long (values p) = refl
 five_long (number n) = refl
+
+-- The k-th three numbers are fix k.
+pub chunk_is : (fixes : List ℤ) (n k : ℕ) → length fixes ≡ 3 * n → k < n
+    → fix_of (get_or (first_chunks 3 n fixes) k []) ≡ record { point = fix_point fixes k; height = fix_height fixes k }
+chunk_is fixes zero k h i = absurd (omega arith)
+chunk_is [] (suc n) k h i = absurd (omega arith)
+chunk_is (_ ∷ []) (suc n) k h i = absurd (omega arith)
+chunk_is (_ ∷ _ ∷ []) (suc n) k h i = absurd (omega arith)
+chunk_is (x ∷ y ∷ z ∷ rest) (suc n) zero h i = refl
+chunk_is (x ∷ y ∷ z ∷ rest) (suc n) (suc k) h i =
+    let below : k < n = omega arith in
+    let i : 3 * suc k ≡ suc (suc (suc (3 * k))) = omega arith in
+    let i₁ : 3 * suc k + 1 ≡ suc (suc (suc (3 * k + 1))) = omega arith in
+    let i₂ : 3 * suc k + 2 ≡ suc (suc (suc (3 * k + 2))) = omega arith in
+    rw (i₁, i₂, i) (chunk_is rest n k (omega arith) below)
 
 module _ (single : Point → ℤ → Outcome Accepted) where
   -- Five numbers for each fix.

@@ -1,6 +1,7 @@
--- Fix k of a list: its point, its height and its answer; the five numbers of a position; and the limit of an answer's count.
+-- A fix of three numbers and its answer; the five numbers of a position; and the limit of an answer's count.
 use Rattle.std.specs.Prelude.{List, [], ◌∷◌, ℕ, ◌+◌, ◌*◌, ◌≤◌, ℤ, pos, get_or}
 use Rattle.rules.specs.declared.Point.{Point}
+use Rattle.rules.specs.declared.Fix.{Fix}
 use Rattle.rules.specs.declared.Position.{Position}
 use Rattle.rules.specs.Answers.{Outcome, values, number}
 use Rattle.rules.specs.Ways.{Accepted}
@@ -15,6 +16,14 @@ fix_height fixes k = get_or fixes (3 * k + 2) (pos 0)
 -- A conversion's answer to fix k.
 abbrev pub at_fix : (Point → ℤ → Outcome Accepted) → List ℤ → ℕ → Outcome Accepted
 at_fix single fixes k = single (fix_point fixes k) (fix_height fixes k)
+
+-- The fix of three numbers.
+abbrev pub fix_of : List ℤ → Fix
+fix_of three =
+    record {
+      point = record { latitude = get_or three 0 (pos 0); longitude = get_or three 1 (pos 0) };
+      height = get_or three 2 (pos 0);
+    }
 
 -- The numbers of a position, and its number.
 abbrev pub numbers_of : Position → ℤ → List ℤ

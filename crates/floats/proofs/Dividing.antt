@@ -8,6 +8,7 @@ use native.Mathlib.Nat.{div-le_self, div-lt_iff_lt-mul, le-div_iff_mul-le}
 use native.Mathlib.Omega.{arith}
 use lib.Dec.{leb}
 use lib.Pow.{pow_mono, pow_pos, pow-add}
+use mir.Val.{bool_byte}
 use borrow.Author.Tests.{leb-true, leb-false}
 use Rattle.floats.specs.Sizes.{rounded_size, floored_size}
 
@@ -17,15 +18,15 @@ nested x r A B h = ap (λ n. n / B) (sym (add-mul-div_right x r h)) ∙ div-div-
 
 -- ---- the code's 1 for a negative number, else 0
 
-pub times_one : (minus : Bool) (x : ℕ) → cond minus 1 0 * x ≡ cond minus x 0
+pub times_one : (minus : Bool) (x : ℕ) → bool_byte minus * x ≡ cond minus x 0
 times_one true x = omega arith
 times_one false x = omega arith
 
-pub less_one : (minus : Bool) (x : ℕ) → x - cond minus 1 0 ≡ cond minus (x - 1) x
+pub less_one : (minus : Bool) (x : ℕ) → x - bool_byte minus ≡ cond minus (x - 1) x
 less_one true x = refl
 less_one false x = omega arith
 
-pub one_most : (minus : Bool) → cond minus 1 0 ≤ 1
+pub one_most : (minus : Bool) → bool_byte minus ≤ 1
 one_most true = omega arith
 one_most false = omega arith
 

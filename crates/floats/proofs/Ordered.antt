@@ -14,6 +14,7 @@ use Rattle.rules.specs.declared.Scale.{Scale}
 use Rattle.rules.specs.Units.{within}
 use Rattle.rules.specs.Floats.{exponent_of, negative, finite, mantissa, power, bias, value_of, nearest}
 use Rattle.floats.specs.Sizes.{rounded_size}
+use Rattle.floats.specs.Turned.{without_sign}
 use Rattle.floats.proofs.Widths.{under_pos, size_signed, nearest_signed}
 
 -- ---- the top of a float's fraction grows with its exponent, and with the bits of its fraction
@@ -62,9 +63,6 @@ size_grows minus a a' b h l =
 
 -- ---- a float by its bits without the sign
 
-abbrev unsigned : FloatFormat → ℕ → ℕ
-unsigned f bits = bits % 2 ^ (f.exponent + f.fraction)
-
 module _ (f : FloatFormat) (s : Scale) where
   -- the size of a float's nearest number, were it of this sign
   abbrev pub size_with : (minus : Bool) (bits : ℕ) → ℕ
@@ -109,14 +107,14 @@ module _ (f : FloatFormat) (s : Scale) where
       }
 
   module _ (u : 0 < s.under) where
-    in_order : (minus : Bool) (a b : ℕ) → unsigned f a ≤ unsigned f b → size_with minus a ≤ size_with minus b
+    in_order : (minus : Bool) (a b : ℕ) → without_sign f a ≤ without_sign f b → size_with minus a ≤ size_with minus b
     in_order minus a b h =
         let d = pow_pos f.fraction in
         let parts = rw (mod-pow-add a f.exponent f.fraction, mod-pow-add b f.exponent f.fraction) at h in
         let tops = ordered (2 ^ f.fraction) _ _ _ _ (mod-lt a d) (mod-lt b d) parts in
         size_grows minus _ _ _ (under_pos (bias f + f.fraction) u) (mul-le-mul_right s.over tops)
 
-    exponents : (a b : ℕ) → unsigned f a ≤ unsigned f b → exponent_of f a ≤ exponent_of f b
+    exponents : (a b : ℕ) → without_sign f a ≤ without_sign f b → exponent_of f a ≤ exponent_of f b
     exponents a b h = rw (field a f.exponent f.fraction, field b f.exponent f.fraction) at (shr_mono f.fraction h)
 
   module _ (limit most : ℕ) (l : LargestWithin limit most) (bits : ℕ) where
@@ -126,21 +124,21 @@ module _ (f : FloatFormat) (s : Scale) where
     within_is : within limit (nearest s (value_of f bits)) ≡ leb (size_with minus bits) limit
     within_is = rw (nearest_signed f s bits l.under_least, size_signed minus _)
 
-    passes : (t : Bool) → leb (unsigned f bits) most ≡ t → (finite f bits && within limit (nearest s (value_of f bits))) ≡ t
+    passes : (t : Bool) → leb (without_sign f bits) most ≡ t → (finite f bits && within limit (nearest s (value_of f bits))) ≡ t
     passes true h =
         let e = mod-eq_of_lt {n = most} {m = 2 ^ (f.exponent + f.fraction)} (omega (arith, l.unsigned_next)) in
-        let o : unsigned f bits ≤ unsigned f most = rw e (leb-true _ _ h) in
+        let o : without_sign f bits ≤ without_sign f most = rw e (leb-true _ _ h) in
         let size = in_order l.under_least minus bits most o in
         let fin = lt-ltb (exponent_of f bits + 1) (2 ^ f.exponent)
         (omega (arith, exponents l.under_least bits most o, ltb-true (exponent_of f most + 1) (2 ^ f.exponent) l.finite_most)) in
         and_both fin (within_is ∙ le-leb (size_with minus bits) limit (le_trans size (leb-true _ _ (l.within_most minus))))
     passes false h =
         let e = mod-eq_of_lt l.unsigned_next in
-        let o : unsigned f (most + 1) ≤ unsigned f bits = rw e (omega (arith, leb-false (unsigned f bits) most h)) in
+        let o : without_sign f (most + 1) ≤ without_sign f bits = rw e (omega (arith, leb-false (without_sign f bits) most h)) in
         let size = in_order l.under_least minus (most + 1) bits o in
         let next = leb-false (size_with minus (most + 1)) limit (l.beyond_next minus) in
         let far = lt-leb (size_with minus bits) limit (omega (arith, size, next)) in
         rw (within_is, far) (and_false (finite f bits))
 
-    pub ordered_passes : (finite f bits && within limit (nearest s (value_of f bits))) ≡ leb (unsigned f bits) most
-    ordered_passes = passes (leb (unsigned f bits) most) refl
+    pub ordered_passes : (finite f bits && within limit (nearest s (value_of f bits))) ≡ leb (without_sign f bits) most
+    ordered_passes = passes (leb (without_sign f bits) most) refl

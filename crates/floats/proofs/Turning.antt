@@ -1,13 +1,16 @@
 -- The bit of the sign, added once, turns the sign of a float's value and nothing else, at every width.
 use mathlib.Core.Bool.{Bool, true, false, not}
-use mathlib.Core.Path.{◌≡◌, refl, sym, ap, ◌∙◌}
-use Prim.Native.Nat.{ℕ, zero, suc, ◌+◌, ◌*◌, ◌/◌, ◌%◌, ◌^◌}
+use mathlib.Core.Path.{◌≡◌, refl, sym, ap, subst, ◌∙◌}
+use Prim.Native.Nat.{ℕ, zero, suc, ◌+◌, ◌*◌, ◌/◌, ◌%◌, ◌^◌, ◌<◌}
 use native.Mathlib.Nat.{add-mul-mod_self_right, add-mod_right, add-div_right, add-mul-div_right}
 use native.Mathlib.Omega.{arith}
 use lib.Dec.{eqb}
 use lib.IntN.{neg_ℤ}
 use lib.Pow.{pow_pos, pow-add}
 use borrow.Author.Tests.{eqb-true, eqb-false, eq-eqb, ne_eqb}
+use Rattle.std.specs.Int.{bit_at}
+use Rattle.std.specs.Int.Bits.{bit_xor, xor_add_and}
+use Rattle.std.proofs.lemmas.Nat.Bits.{and_pow, bit_at-lt}
 use Rattle.rules.specs.declared.FloatFormat.{FloatFormat}
 use Rattle.rules.specs.Floats.{fraction_of, exponent_of, negative, finite, signed, value_of}
 use Rattle.floats.specs.Turned.{Turned}
@@ -62,6 +65,16 @@ module _ (f : FloatFormat) (bits : ℕ) where
   unfolding value_of
   sign_taken = record { finite_same = sym finite_kept; value_turned = rw (exponent_kept, fraction_kept, sign_other, ← signed_back) }
 
--- Bits that are read are turned as those that they equal.
-pub turned_same : (f : FloatFormat) (bits read r : ℕ) → read ≡ bits → Turned f read r → Turned f bits r
-turned_same f bits read r e t = rw (← e) t
+-- The code turns the bit of the sign, whether it is set or not.
+by_bit : (f : FloatFormat) (bits r bit : ℕ) → let sign = 2 ^ (f.fraction + f.exponent) in
+    r + bit * sign * 2 ≡ bits + sign → bit < 2 → Turned f bits r
+by_bit f bits r zero e h = let a : sign_added f bits ≡ r = omega arith in subst (Turned f bits) a (sign_added_lem f bits)
+by_bit f bits r (suc zero) e h =
+    let a : sign_added f r ≡ bits = omega arith in
+    subst (λ (n : ℕ). Turned f n r) a (sign_taken f r)
+by_bit f bits r (suc (suc n)) e h = absurd (omega arith)
+
+pub turned_lem : (f : FloatFormat) (bits sign : ℕ) → sign ≡ 2 ^ (f.fraction + f.exponent) → Turned f bits (bit_xor bits sign)
+turned_lem f bits sign e =
+    let k = f.fraction + f.exponent in
+    rw e (by_bit f bits _ (bit_at bits k) (rw (and_pow bits k) at (xor_add_and bits (2 ^ k))) (bit_at-lt bits k))

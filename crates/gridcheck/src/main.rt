@@ -2,30 +2,28 @@
 // refusal.
 #![tactic(auto)]
 
-use rules::{Checked, Findings, Steps};
+use rules::{Findings, Steps};
 use slopes::grid_check;
 use std::io;
 use streams::{print_field, print_refusal, read_image};
 
 fn main(rt: HostRuntime) -> io::Result<()> {
     let mut image = [0u8; 65536];
-    let input = read_image(&mut rt.reader(), &mut image);
-    if input.too_long {
-        return println!(rt; "too long");
+    match read_image(&mut rt.reader(), &mut image) {
+        Ok(size) => report(&rt, &image[..size]),
+        Err(_) => println!(rt; "too long"),
     }
-    let size = input.size;
-    report(&rt, &image[..size])
 }
 
 // One line: `passed` and A and B of the three values, or `refused` and the number.
 fn report(rt: &impl Print, image: &[u8]) -> io::Result<()> {
     match grid_check(image) {
-        Checked::Passed(f) => {
+        Ok(f) => {
             print!(rt; "passed")?;
             print_findings(rt, f)?;
             println!(rt)
         }
-        Checked::Refused(r) => print_refusal(rt, r),
+        Err(r) => print_refusal(rt, r),
     }
 }
 

@@ -12,15 +12,17 @@ use Rattle.rules.specs.declared.Point.{Point}
 use Rattle.rules.specs.Image.{Grid, grid_of, plane, rows, columns}
 use Rattle.rules.specs.Limits.{InImage, Open, OpenAround}
 use Rattle.rules.specs.Lookup.{dense_grid, grid_for}
+use Rattle.image.specs.declared.fit.FitImage.{FitImage}
 use Rattle.nodes.specs.Either.{either, node_values, CellInside}
 use Rattle.rules.proofs.Lent.{part_from, part_length}
 use Rattle.nodes.proofs.Parts.{plane_nodes}
 use Rattle.lookup.specs.declared.CellCorners.{CellCorners}
 use Rattle.lookup.specs.declared.HeldCell.{HeldCell}
-use Rattle.lookup.specs.Held.{Bounded, spacings_of, cell_place, zeros, held_cell, held_at, lies_in}
-use Rattle.lookup.proofs.Covering.{Serves, serves}
+use Rattle.lookup.specs.declared.Placed.{Placed}
+use Rattle.lookup.specs.Held.{Bounded, Around, zeros, held_cell, held_at, lies_in}
+use Rattle.lookup.proofs.Covering.{Serves, serves, open_around}
 use Rattle.lookup.proofs.Found.{same_cell}
-use Rattle.grids.specs.Grids.{taken_dense, latitude_plane, longitude_plane, squares_at, correction_cell}
+use Rattle.grids.specs.Grids.{taken_dense, latitude_plane, longitude_plane, placed_squares_of, correction_cell, correction_cell_of}
 
 -- ---- the grid of these planes
 -- Both planes of a grid have one geometry.
@@ -31,36 +33,38 @@ one_geometry o false = o.longitude_geometry
 abbrev pub chosen : List ℕ → Layout → Bool → Grid
 chosen b l t = cond t (dense_grid (grid_of b l)) (grid_of b l)
 
-module _ (b : List ℕ) (l : Layout) where
-  chosen_geometry : (t : Bool) → (chosen b l t).corrections ≡ (latitude_plane l t).geometry
+module _ (i : FitImage) where
+  abbrev chosen_in : Bool → Grid
+  chosen_in = chosen i.bytes.now i.layout
+
+  chosen_geometry : (t : Bool) → (chosen_in t).corrections ≡ (latitude_plane i.layout t).geometry
   chosen_geometry true = refl
   chosen_geometry false = refl
 
   -- The corners of a point's cell there.
-  pub cell_chosen : (p : Point) (t : Bool) → let k = chosen b l t in
-      correction_cell (latitude_plane l t).geometry (plane b (latitude_plane l t)) (plane b (longitude_plane l t)) p
-      ≡ correction_cell k.corrections k.latitude k.longitude p
+  pub cell_chosen : (p : Point) (t : Bool) → let k = chosen_in t in
+      correction_cell_of i t p ≡ correction_cell k.corrections k.latitude k.longitude p
   cell_chosen p true = refl
   cell_chosen p false = refl
 
   -- The cell that is held there has zeros for heights, where these stand on a separate grid.
   abbrev pub held_of : Point → Bool → HeldCell
   held_of p t =
-      let g = (latitude_plane l t).geometry in
-      let cell = cell_place g p in
-      let c = squares_at (plane b (latitude_plane l t)) (plane b (longitude_plane l t)) cell.row cell.column in
-      let corners : CellCorners = record { latitude = c.latitude; longitude = c.longitude; height = zeros } in
-      held_cell l.latitude.geometry p cell.at (spacings_of g) corners
+      let cell = placed_squares_of i t p in
+      let corners : CellCorners = record { latitude = cell.corners.latitude; longitude = cell.corners.longitude; height = zeros } in
+      let placed : Placed CellCorners = record { corners = corners; spacings = cell.spacings; at = cell.at } in
+      held_cell i.layout.latitude.geometry p placed
 
-  pub held_chosen : (p : Point) → l.separate ≡ true → (t : Bool) → held_of p t ≡ held_at l.latitude.geometry (chosen b l t) p
+  pub held_chosen : (p : Point) → i.layout.separate ≡ true → (t : Bool)
+      → held_of p t ≡ held_at i.layout.latitude.geometry (chosen_in t) p
   unfolding held_at
   held_chosen p two true = refl
   held_chosen p two false = rw two
 
   -- It serves the point whose corrections are taken there.
-  pub chosen_serves : (p : Point) (t : Bool) → OpenAround b l p → t ≡ taken_dense l p
-      → Serves l.latitude.geometry (latitude_plane l t).geometry p
-  chosen_serves p t o e = rw (e, ← chosen_geometry (taken_dense l p)) (serves b l p o)
+  pub chosen_serves : (p : Point) (t : Bool) → Around i p → t ≡ taken_dense i.layout p
+      → Serves i.layout.latitude.geometry (latitude_plane i.layout t).geometry p
+  chosen_serves p t o e = rw (e, ← chosen_geometry (taken_dense i.layout p)) (serves i.bytes.now i.layout p (open_around i o))
 
 -- ---- two points
 module _ {b : List ℕ} {l : Layout} {r q : Point} (o : OpenAround b l r) (u : OpenAround b l q) (e : taken_dense l q ≡ taken_dense l r) where

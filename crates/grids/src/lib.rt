@@ -4,25 +4,28 @@
 
 ghost use Rattle.std.specs.Prelude.{◌≡◌, true, ◌&&◌, ◌+◌, ◌<◌, length};
 ghost use Rattle.rules.specs.Units.{correction_limit};
-ghost use Rattle.rules.specs.Image.{rows, columns, plane, grid_of};
-ghost use Rattle.rules.specs.Limits.{GeometryPasses, InImage, Open, OpenAround};
+ghost use Rattle.rules.specs.Answers.{outcome_of};
+ghost use Rattle.rules.specs.Image.{plane};
+ghost use Rattle.rules.specs.Limits.{GeometryPasses, InImage};
 ghost use Rattle.rules.specs.Bilinear.{corners};
-ghost use Rattle.rules.specs.Lookup.{square_passes, corrections_or_zero, height_lookup_of, grid_for};
+ghost use Rattle.rules.specs.Lookup.{corrections_or_zero, grid_for};
+ghost use Rattle.image.specs.Fit.{grid_in};
+ghost use Rattle.nodes.specs.Row.{CellIn};
 ghost use Rattle.nodes.specs.Either.{either};
-ghost use Rattle.lookup.specs.Held.{held_at, point_lookup_of};
-ghost use Rattle.grids.specs.Grids.{taken_dense, latitude_plane, longitude_plane, squares_at, correction_cell_for, correction_cell_of};
-ghost use Rattle.grids.specs.Grids.{height_cell, height_cell_of, CorrectionsWeighed, HeightsWeighed, height_between, values_on};
-ghost use Rattle.grids.specs.Grids.{grids_lookup, height_on, height_on_or_none, correction_lookup_of};
+ghost use Rattle.lookup.specs.Held.{Bounded, Around, held_at, point_lookup_of};
+ghost use Rattle.grids.specs.Grids.{taken_dense, latitude_plane, longitude_plane, squares_at, squares_pass, placed_squares_of};
+ghost use Rattle.grids.specs.Grids.{correction_cell_of, asked_height, correction_cell_for, height_cell, CorrectionsWeighed, HeightsWeighed};
+ghost use Rattle.grids.specs.Grids.{corrections_between, height_between, values_on, grids_lookup, height_on, height_on_or_none};
 
 use geometry::in_bounds;
+use image::FitImage;
 use lookup::{
-    CellCorners, HeldCell, PlaceInCell, PointLookup, PointValues, Spacings, cell_of, held_cell,
-    spacings_of, value_between,
+    CellCorners, HeldCell, Placed, PointValues, cell_of, held_cell, spacings_of, value_between,
 };
 use nodes::{beside, corners_at, corners_of_either, square_passes};
 use rules::{
-    CORRECTION_LIMIT, Correction, Geometry, HeightLookup, Layout, Plane, Point, QUASI_GEOID_LIMIT,
-    Refusal, Square,
+    CORRECTION_LIMIT, Correction, Geometry, Layout, Plane, Point, QUASI_GEOID_LIMIT, Refusal,
+    Square,
 };
 
 // Both corrections at the corners of a cell.
@@ -32,106 +35,48 @@ pub struct CorrectionSquares {
     pub longitude: Square,
 }
 
-// The same of a point's cell, with the spacings of its grid and the point's place in it.
-#[derive(Clone, Copy)]
-pub struct CorrectionCorners {
-    pub latitude: Square,
-    pub longitude: Square,
-    pub spacings: Spacings,
-    pub at: PlaceInCell,
-}
-
-// The heights at the corners of a point's cell on a height grid, likewise.
-#[derive(Clone, Copy)]
-pub struct HeightCorners {
-    pub height: Square,
-    pub spacings: Spacings,
-    pub at: PlaceInCell,
-}
-
-// What reading the corners of a point's cell on either grid answers: they, or a refusal.
-#[derive(Clone, Copy)]
-pub enum CorrectionCell {
-    Corners(CorrectionCorners),
-    Refused(Refusal),
-}
-
-#[derive(Clone, Copy)]
-pub enum HeightCell {
-    Corners(HeightCorners),
-    Refused(Refusal),
-}
-
-// What the lookup of the corrections at a point answers: they, or a refusal.
-#[derive(Clone, Copy)]
-pub enum CorrectionLookup {
-    Found(Correction),
-    Refused(Refusal),
-}
-
 // The lookup of all values at a point in the bounds of the corrections, with heights on a separate grid: the corners on both grids, with
 // their questions, and then the values. All corners are read before the first value is weighed, so that the reads wait for memory together.
-pub fn look_up_grids(image: &[u8], l: Layout, p: Point) -> PointLookup
-    requires { OpenAround image.now l p }
-    ensures { point_lookup_of result ≡ grids_lookup (grid_of image.now l) p }
+pub fn look_up_grids(image: &FitImage<'_>, p: Point) -> Result<PointValues, Refusal>
+    requires { Around image.now p }
+    ensures { point_lookup_of result ≡ grids_lookup (grid_in image.now) p }
 {
-    match correction_cell(image, l, p) {
-        CorrectionCell::Corners(c) => match height_cell(image, l.height, p) {
-            HeightCell::Corners(h) => PointLookup::Values(values_on(c, h)),
-            HeightCell::Refused(r) => PointLookup::Refused(r),
-        },
-        CorrectionCell::Refused(r) => PointLookup::Refused(r),
-    }
+    let c = correction_cell(image, p)?;
+    let h = height_cell(image.bytes, image.layout.height, p)?;
+    Ok(values_on(c, h))
 }
 
 // The corners of a point's cell on the grid that its corrections are taken from, after question 9.
-fn correction_cell(image: &[u8], l: Layout, p: Point) -> CorrectionCell
-    requires { OpenAround image.now l p }
-    ensures { correction_cell_of result ≡ correction_cell_for (grid_of image.now l) p }
+fn correction_cell(image: &FitImage<'_>, p: Point) -> Result<Placed<CorrectionSquares>, Refusal>
+    requires { Around image.now p }
+    ensures { outcome_of result ≡ correction_cell_for (grid_in image.now) p }
 {
-    let dense = is_taken_dense(l, p);
-    let g = geometry_for(l, dense);
-    let cell = cell_of(g, p);
-    let c = corrections_at(image, l, dense, cell.row, cell.column);
-    let latitude = c.latitude;
-    let longitude = c.longitude;
-    if !corrections_pass(latitude, longitude) {
-        return CorrectionCell::Refused(Refusal::NodeLimits);
-    }
-    let at = cell.at;
-    let spacings = spacings_of(g);
-    CorrectionCell::Corners(CorrectionCorners {
-        latitude,
-        longitude,
-        spacings,
-        at,
-    })
+    cell_on(image, is_taken_dense(image.layout, p), p)
 }
 
 // The cell of a point on the grid that its corrections are taken from, for the way out. It has no heights: zeros, which pass question 9,
 // stand for them.
-pub fn corrections_around(image: &[u8], l: Layout, dense: bool, p: Point) -> HeldCell
-    requires { OpenAround image.now l p × (l.separate ≡ true) × (dense ≡ taken_dense l p) }
-    ensures { result ≡ held_at l.latitude.geometry (grid_for (grid_of image.now l) p) p }
+pub fn corrections_around(image: &FitImage<'_>, dense: bool, p: Point) -> HeldCell
+    requires { Around image.now p × ((grid_in image.now).separate ≡ true) × (dense ≡ taken_dense image.now.layout p) }
+    ensures { result ≡ held_at (grid_in image.now).corrections (grid_for (grid_in image.now) p) p }
 {
-    let g = geometry_for(l, dense);
-    let cell = cell_of(g, p);
-    let c = corrections_at(image, l, dense, cell.row, cell.column);
-    let latitude = c.latitude;
-    let longitude = c.longitude;
-    let height = Square {
-        southwest: 0,
-        southeast: 0,
-        northwest: 0,
-        northeast: 0,
-    };
+    let cell = placed_on(image, dense, p);
     let corners = CellCorners {
-        latitude,
-        longitude,
-        height,
+        latitude: cell.corners.latitude,
+        longitude: cell.corners.longitude,
+        height: Square {
+            southwest: 0,
+            southeast: 0,
+            northwest: 0,
+            northeast: 0,
+        },
     };
-    let at = cell.at;
-    held_cell(l.latitude.geometry, p, at, spacings_of(g), corners)
+    let placed = Placed {
+        corners,
+        spacings: cell.spacings,
+        at: cell.at,
+    };
+    held_cell(image.layout.latitude.geometry, p, placed)
 }
 
 // Are a point's corrections taken from the dense grid: is there one, and the point in its bounds?
@@ -139,30 +84,55 @@ pub fn is_taken_dense(l: Layout, p: Point) -> bool
     requires { GeometryPasses l.dense.geometry }
     ensures { result ≡ taken_dense l p }
 {
-    if l.nested {
-        in_bounds(l.dense.geometry, p)
+    l.nested && in_bounds(l.dense.geometry, p)
+}
+
+// The corners of the cell of a point in the bounds of the dense grid, or of the coarse one, after question 9. This and the next are
+// compiled into the callers: a call would hand the cell back in memory.
+#[inline(always)]
+fn cell_on(
+    image: &FitImage<'_>,
+    dense: bool,
+    p: Point,
+) -> Result<Placed<CorrectionSquares>, Refusal>
+    requires { Bounded (latitude_plane image.now.layout dense).geometry p }
+    ensures { outcome_of result ≡ correction_cell_of image.now dense p }
+{
+    let cell = placed_on(image, dense, p);
+    if squares_pass(cell.corners) {
+        Ok(cell)
     } else {
-        false
+        Err(Refusal::NodeLimits)
+    }
+}
+
+// The same before question 9.
+#[inline(always)]
+fn placed_on(image: &FitImage<'_>, dense: bool, p: Point) -> Placed<CorrectionSquares>
+    requires { Bounded (latitude_plane image.now.layout dense).geometry p }
+    ensures { result ≡ placed_squares_of image.now dense p }
+{
+    let g = geometry_for(image.layout, dense);
+    let cell = cell_of(g, p);
+    Placed {
+        corners: corrections_at(image, dense, cell.row, cell.column),
+        spacings: spacings_of(g),
+        at: cell.at,
     }
 }
 
 // Both corrections at the corners of a cell of the dense grid, or of the coarse one.
-fn corrections_at(image: &[u8], l: Layout, dense: bool, row: u64, column: u64) -> CorrectionSquares
-    requires { Open (length image.now) l × ((row + 1 < rows (latitude_plane l dense).geometry)
-        × (column + 1 < columns (latitude_plane l dense).geometry)) }
-    ensures { result
-        ≡ squares_at (plane image.now (latitude_plane l dense)) (plane image.now (longitude_plane l dense))
-        row column }
+fn corrections_at(image: &FitImage<'_>, dense: bool, row: u64, column: u64) -> CorrectionSquares
+    requires { CellIn (latitude_plane image.now.layout dense).geometry row column }
+    ensures { let b = image.now.bytes.now in
+        let l = image.now.layout in
+        result ≡ squares_at (plane b (latitude_plane l dense)) (plane b (longitude_plane l dense)) row column }
 {
-    let fine = l.dense;
-    let next = beside(image.len() as u64, fine);
-    let coarse = l.latitude;
-    let coarse_next = l.longitude;
-    let latitude = corners_on(image, fine, coarse, dense, row, column);
-    let longitude = corners_on(image, next, coarse_next, dense, row, column);
+    let l = image.layout;
+    let next = beside(image.bytes.len() as u64, l.dense);
     CorrectionSquares {
-        latitude,
-        longitude,
+        latitude: corners_on(image.bytes, l.dense, l.latitude, dense, row, column),
+        longitude: corners_on(image.bytes, next, l.longitude, dense, row, column),
     }
 }
 
@@ -176,19 +146,16 @@ fn corners_on(
     column: u64,
 ) -> Square
     requires { InImage (length image.now) fine × InImage (length image.now) coarse
-        × ((row + 1 < rows (either dense fine coarse).geometry) × (column + 1 < columns (either dense fine coarse).geometry)) }
+        × CellIn (either dense fine coarse).geometry row column }
     ensures { result ≡ corners (plane image.now (either dense fine coarse)) row column }
 {
     let chosen = plane_for(fine, coarse, dense);
-    let columns = chosen.geometry.longitude.count;
-    let fine_start = fine.first as usize;
-    let coarse_start = coarse.first as usize;
     corners_of_either(
-        &image[fine_start..],
-        &image[coarse_start..],
+        &image[fine.first as usize..],
+        &image[coarse.first as usize..],
         dense,
         chosen.stride,
-        columns,
+        chosen.geometry.longitude.count,
         row,
         column,
     )
@@ -198,9 +165,7 @@ fn corners_on(
 fn geometry_for(l: Layout, dense: bool) -> Geometry
     ensures { result ≡ (latitude_plane l dense).geometry }
 {
-    let fine = l.dense;
-    let coarse = l.latitude;
-    plane_for(fine, coarse, dense).geometry
+    plane_for(l.dense, l.latitude, dense).geometry
 }
 
 // One of two planes.
@@ -211,125 +176,104 @@ fn plane_for(fine: Plane, coarse: Plane, dense: bool) -> Plane
 }
 
 // Question 9 of the two corrections at a cell's corners.
-fn corrections_pass(latitude: Square, longitude: Square) -> bool
-    ensures { result ≡ (square_passes correction_limit latitude && square_passes correction_limit longitude) }
+fn squares_pass(c: CorrectionSquares) -> bool
+    ensures { result ≡ squares_pass c }
 {
-    if square_passes(latitude, CORRECTION_LIMIT) {
-        square_passes(longitude, CORRECTION_LIMIT)
-    } else {
-        false
-    }
+    square_passes(c.latitude, CORRECTION_LIMIT) && square_passes(c.longitude, CORRECTION_LIMIT)
 }
 
 // The corners of a point's cell on a separate height grid, after question 15 and question 9.
-fn height_cell(image: &[u8], p: Plane, q: Point) -> HeightCell
+fn height_cell(image: &[u8], p: Plane, q: Point) -> Result<Placed<Square>, Refusal>
     requires { InImage (length image.now) p }
-    ensures { height_cell_of result ≡ height_cell p.geometry (plane image.now p) q }
+    ensures { outcome_of result ≡ height_cell p.geometry (plane image.now p) q }
 {
-    let g = p.geometry;
-    if !in_bounds(g, q) {
-        return HeightCell::Refused(Refusal::OffHeightGrid);
+    if !in_bounds(p.geometry, q) {
+        return Err(Refusal::OffHeightGrid);
     }
-    let cell = cell_of(g, q);
-    let height = corners_at(image, p, cell.row, cell.column);
-    if !square_passes(height, QUASI_GEOID_LIMIT) {
-        return HeightCell::Refused(Refusal::NodeLimits);
+    height_cell_inside(image, p, q)
+}
+
+// The corners of the cell of a point on the height grid, after question 9.
+#[inline(always)]
+fn height_cell_inside(image: &[u8], p: Plane, q: Point) -> Result<Placed<Square>, Refusal>
+    requires { InImage (length image.now) p × Bounded p.geometry q }
+    ensures { outcome_of result ≡ asked_height p.geometry (plane image.now p) q }
+{
+    let cell = cell_of(p.geometry, q);
+    let corners = corners_at(image, p, cell.row, cell.column);
+    if !square_passes(corners, QUASI_GEOID_LIMIT) {
+        return Err(Refusal::NodeLimits);
     }
-    let at = cell.at;
-    let spacings = spacings_of(g);
-    HeightCell::Corners(HeightCorners {
-        height,
-        spacings,
-        at,
+    Ok(Placed {
+        corners,
+        spacings: spacings_of(p.geometry),
+        at: cell.at,
     })
 }
 
 // The values between the corners on both grids.
-fn values_on(c: CorrectionCorners, h: HeightCorners) -> PointValues
+fn values_on(c: Placed<CorrectionSquares>, h: Placed<Square>) -> PointValues
     requires { CorrectionsWeighed c × HeightsWeighed h }
     ensures { result ≡ values_on c h }
 {
-    let a = c.latitude;
-    let b = c.longitude;
-    let spacings = c.spacings;
-    let at = c.at;
-    let latitude = value_between(a, spacings, at);
-    let longitude = value_between(b, spacings, at);
-    let height = height_between(h);
-    let correction = Correction {
-        latitude,
-        longitude,
-    };
-    PointValues { correction, height }
-}
-
-// The value between the corners on a height grid.
-fn height_between(h: HeightCorners) -> i64
-    requires { HeightsWeighed h }
-    ensures { result ≡ height_between h }
-{
-    let c = h.height;
-    let spacings = h.spacings;
-    let at = h.at;
-    value_between(c, spacings, at)
-}
-
-// The lookup of the quasi-geoid height at a point on a separate height grid: question 15, question 9 for its cell there, then the value.
-pub fn height_on(image: &[u8], p: Plane, q: Point) -> HeightLookup
-    requires { InImage (length image.now) p }
-    ensures { height_lookup_of result ≡ height_on p.geometry (plane image.now p) q }
-{
-    match height_cell(image, p, q) {
-        HeightCell::Corners(h) => HeightLookup::Height(height_between(h)),
-        HeightCell::Refused(r) => HeightLookup::Refused(r),
+    PointValues {
+        correction: corrections_between(c),
+        height: height_between(h),
     }
 }
 
-// Kind 2's lookup of the corrections, at any point: outside the bounds both are zero, and no cell is read. This and the next read their
-// cell themselves, so that `correction_cell` and `height_on` keep one place in a conversion from which they are called.
-pub fn corrections_or_zero(image: &[u8], l: Layout, p: Point) -> CorrectionLookup
-    requires { Open (length image.now) l }
-    ensures { correction_lookup_of result ≡ corrections_or_zero (grid_of image.now l) p }
+// The corrections between their corners.
+fn corrections_between(c: Placed<CorrectionSquares>) -> Correction
+    requires { CorrectionsWeighed c }
+    ensures { result ≡ corrections_between c }
 {
-    let g = l.latitude.geometry;
-    if !in_bounds(g, p) {
-        return CorrectionLookup::Found(Correction {
+    Correction {
+        latitude: value_between(c.corners.latitude, c.spacings, c.at),
+        longitude: value_between(c.corners.longitude, c.spacings, c.at),
+    }
+}
+
+// The value between the corners on a height grid.
+fn height_between(h: Placed<Square>) -> i64
+    requires { HeightsWeighed h }
+    ensures { result ≡ height_between h }
+{
+    value_between(h.corners, h.spacings, h.at)
+}
+
+// The lookup of the quasi-geoid height at a point on a separate height grid: question 15, question 9 for its cell there, then the value.
+pub fn height_on(image: &[u8], p: Plane, q: Point) -> Result<Option<i64>, Refusal>
+    requires { InImage (length image.now) p }
+    ensures { outcome_of result ≡ height_on p.geometry (plane image.now p) q }
+{
+    let h = height_cell(image, p, q)?;
+    Ok(Some(height_between(h)))
+}
+
+// Kind 2's lookup of the corrections, at any point: outside the bounds both are zero, and no cell is read. Compiled into its callers, so that
+// no call is handed a fit image: one in memory the compiler clears first, by a call of a function of C.
+#[inline(always)]
+pub fn corrections_or_zero(image: &FitImage<'_>, p: Point) -> Result<Correction, Refusal>
+    ensures { outcome_of result ≡ corrections_or_zero (grid_in image.now) p }
+{
+    if !in_bounds(image.layout.latitude.geometry, p) {
+        return Ok(Correction {
             latitude: 0,
             longitude: 0,
         });
     }
-    let cell = cell_of(g, p);
-    let c = corrections_at(image, l, false, cell.row, cell.column);
-    let a = c.latitude;
-    let b = c.longitude;
-    if !corrections_pass(a, b) {
-        return CorrectionLookup::Refused(Refusal::NodeLimits);
-    }
-    let spacings = spacings_of(g);
-    let at = cell.at;
-    let latitude = value_between(a, spacings, at);
-    let longitude = value_between(b, spacings, at);
-    CorrectionLookup::Found(Correction {
-        latitude,
-        longitude,
-    })
+    let c = cell_on(image, false, p)?;
+    Ok(corrections_between(c))
 }
 
-// And of the height: off the height grid there is none.
-pub fn height_or_none(image: &[u8], p: Plane, q: Point) -> HeightLookup
+// And of the height: off the height grid there is none, where `height_cell` refuses.
+pub fn height_or_none(image: &[u8], p: Plane, q: Point) -> Result<Option<i64>, Refusal>
     requires { InImage (length image.now) p }
-    ensures { height_lookup_of result ≡ height_on_or_none p.geometry (plane image.now p) q }
+    ensures { outcome_of result ≡ height_on_or_none p.geometry (plane image.now p) q }
 {
-    let g = p.geometry;
-    if !in_bounds(g, q) {
-        return HeightLookup::NoHeight;
+    if !in_bounds(p.geometry, q) {
+        return Ok(None);
     }
-    let cell = cell_of(g, q);
-    let corners = corners_at(image, p, cell.row, cell.column);
-    if !square_passes(corners, QUASI_GEOID_LIMIT) {
-        return HeightLookup::Refused(Refusal::NodeLimits);
-    }
-    let spacings = spacings_of(g);
-    let at = cell.at;
-    HeightLookup::Height(value_between(corners, spacings, at))
+    let h = height_cell_inside(image, p, q)?;
+    Ok(Some(height_between(h)))
 }

@@ -1,2 +1,2 @@
 -- What the contracts of the opening cite.
-pub mod Planes
+pub mod Fit

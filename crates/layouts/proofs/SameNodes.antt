@@ -1,5 +1,5 @@
 -- Two grids of kinds 0 and 3 with the same nodes answer every point alike, and their checks give the same.
-use Rattle.std.specs.Prelude.{Bool, true, cond, ◌&&◌, ◌≡◌, ℕ, ◌+◌, ◌-◌, ℤ, nat_abs, ◌-ℤ◌}
+use Rattle.std.specs.Prelude.{Bool, Some, true, cond, ◌&&◌, ◌≡◌, ℕ, ◌+◌, ◌-◌, ℤ, nat_abs, ◌-ℤ◌}
 use Rattle.std.proofs.Math.Path.{ap}
 use Rattle.std.proofs.Common.{◌∙◌, arith}
 use Rattle.rules.specs.declared.Geometry.{Geometry}
@@ -9,7 +9,7 @@ use Rattle.rules.specs.Answers.{values, ask}
 use Rattle.rules.specs.Image.{Grid, rows, columns}
 use Rattle.rules.specs.Limits.{GeometryPasses}
 use Rattle.rules.specs.Bilinear.{corners_for, part_for, bilinear, value_at}
-use Rattle.rules.specs.Lookup.{some, inside, square_passes, corrections_pass, heights_pass, correction_grid_lookup, height_grid_lookup}
+use Rattle.rules.specs.Lookup.{inside, square_passes, corrections_pass, heights_pass, correction_grid_lookup, height_grid_lookup}
 use Rattle.rules.specs.Ways.{source_of}
 use Rattle.rules.specs.Check.{all_within, all_pass, step_north, step_east, steps_of, slope_passes, question12, findings_of, check}
 use Rattle.rules.specs.Check.{dense_passes, dense_slopes_pass, question21, question22}
@@ -87,7 +87,7 @@ module _ {g k : Grid} (s : SameNodes g k) (c : GeometryPasses g.corrections) (h 
   heights_same q =
       let e = s.heights in
       λ i. ask (inside (e i) q) 15
-      (ask (square_passes quasi_geoid_limit (corners_same e h s.height q i)) 9 (values (some (value_same e h s.height q i))))
+      (ask (square_passes quasi_geoid_limit (corners_same e h s.height q i)) 9 (values (Some (value_same e h s.height q i))))
 
   -- So they have the same answers,
   pub sources_same : source_of g ≡ source_of k

@@ -19,8 +19,10 @@ use Rattle.rules.specs.Bilinear.{offset, part_of, cell_for, part_for}
 use Rattle.rules.specs.Lookup.{on_axis, inside, grid_for}
 use Rattle.rules.proofs.Cells.{from_start, cell_most, cell_is, less_part}
 use Rattle.rules.proofs.Nesting.{Aligned, coarse_offset, latitude_aligned, longitude_aligned}
+use Rattle.image.specs.declared.fit.FitImage.{FitImage}
+use Rattle.image.specs.Fit.{grid_in}
 use Rattle.axis.specs.Place.{reaches}
-use Rattle.lookup.specs.Held.{Bounded}
+use Rattle.lookup.specs.Held.{Bounded, Around}
 
 -- ---- one axis d in the bounds of another, c
 pub record CoversAxis (c d : Axis) : Type 0 where
@@ -73,6 +75,13 @@ pub record Serves (bounds g : Geometry) (p : Point) : Type 0 where
 -- A point in the bounds of an open image; the coarse grid serves it.
 pub bounded_around : {b : List ℕ} {l : Layout} {p : Point} → OpenAround b l p → Bounded l.latitude.geometry p
 bounded_around o = record { geometry = o.layout.latitude.geometry; point = o.point }
+
+-- A fit image is open with its layout.
+pub open_around : (i : FitImage) {p : Point} → Around i p → OpenAround i.bytes.now i.layout p
+open_around i t = record { layout = i.fits; point = t }
+
+pub bounded_in : (i : FitImage) {p : Point} → Around i p → Bounded (grid_in i).corrections p
+bounded_in i t = bounded_around (open_around i t)
 
 pub itself_serves : {g : Geometry} {p : Point} → Bounded g p → Serves g g p
 itself_serves b = record { bounded = b; covers = record { latitude = covers_itself _; longitude = covers_itself _ } }

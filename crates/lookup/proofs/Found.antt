@@ -1,5 +1,6 @@
 -- The lookups in terms of the held cell around a point, the limits that question 9 establishes of the values there, and the cell held for a
 -- further point.
+use Rattle.std.specs.Prelude.{Some}
 use mathlib.Core.Bool.{Bool, true, false, cond, ◌&&◌}
 use mathlib.Core.List.{List}
 use mathlib.Core.Path.{◌≡◌, refl, sym, ap, subst, ◌∙◌}
@@ -19,23 +20,24 @@ use Rattle.rules.specs.Units.{correction_limit, quasi_geoid_limit}
 use Rattle.rules.specs.Answers.{Outcome, values, ask}
 use Rattle.rules.specs.Image.{Grid, grid_of}
 use Rattle.rules.specs.Limits.{OpenAround, CornersWithin, CorrectionWithin}
-use Rattle.rules.specs.Bilinear.{corners, corners_for, value_at}
+use Rattle.rules.specs.Bilinear.{corners_for, value_at}
 use Rattle.rules.specs.Lookup.{inside, square_passes, question9, corrections_pass, corrections_at, correction_lookup}
 use Rattle.rules.specs.Lookup.{correction_grid_lookup}
-use Rattle.rules.specs.Lookup.{some, height_lookup, grid_for}
+use Rattle.rules.specs.Lookup.{height_lookup, grid_for}
 use Rattle.rules.specs.Ways.{bounded_source}
 use Rattle.rules.proofs.Answers.{asked}
 use Rattle.rules.proofs.Cells.{on_latitude, on_longitude}
 use Rattle.rules.proofs.Limits.{corners_within}
 use Rattle.rules.proofs.Weights.{value_within}
 use Rattle.axis.specs.Place.{reaches}
-use Rattle.lookup.specs.declared.Spacings.{Spacings}
+use Rattle.rules.specs.declared.Spacings.{Spacings}
 use Rattle.lookup.specs.declared.HeldCell.{HeldCell}
 use Rattle.lookup.specs.declared.CellCorners.{CellCorners}
-use Rattle.lookup.specs.declared.PlaceInCell.{PlaceInCell}
-use Rattle.lookup.specs.declared.CellPlace.{CellPlace}
-use Rattle.lookup.specs.Held.{Bounded, spacings_of, offsets_of, cell_place, zeros, cell_corners, corners_pass, held_at, no_cell}
-use Rattle.lookup.specs.Held.{lies_in, place_in, InCellOf, Holds, value_in, corrections_in, height_in, values_in}
+use Rattle.rules.specs.declared.PlaceInCell.{PlaceInCell}
+use Rattle.bilinear.specs.Mean.{InCell}
+use Rattle.lookup.specs.declared.Placed.{Placed}
+use Rattle.lookup.specs.Held.{Bounded, spacings_of, offsets_of, cell_place, zeros, cell_corners, corners_pass, placed_cell, held_at}
+use Rattle.lookup.specs.Held.{no_cell, lies_in, place_in, Holds, value_in, corrections_in, height_in, values_in}
 use Rattle.lookup.proofs.Covering.{Serves, serves, bounded_around, part_in, side_is, same_along}
 use Rattle.lookup.proofs.Places.{in_cell}
 
@@ -61,7 +63,7 @@ pub heights_within : {c : Square} → CornersWithin quasi_geoid_limit c → Corn
 heights_within w = omega arith
 
 -- A value between corners is within their limit.
-pub between_within : {M : ℕ} (c : Square) {s : Spacings} {at : PlaceInCell} → CornersWithin M c → InCellOf s at
+pub between_within : {M : ℕ} (c : Square) {s : Spacings} {at : PlaceInCell} → CornersWithin M c → InCell s at
     → nat_abs (value_in c s at) ≤ M
 unfolding value_in
 between_within c w at =
@@ -78,9 +80,9 @@ corrections_within {h} t k =
 
 -- A height that is found in a held cell is within question 9's limit.
 pub height_in_within : (h : HeldCell) (bounds : Geometry) (p : Point) (z : ℤ) → Holds h bounds p
-    → height_in h bounds p ≡ values (some z) → nat_abs z ≤ quasi_geoid_limit
+    → height_in h bounds p ≡ values (Some z) → nat_abs z ≤ quasi_geoid_limit
 height_in_within h bounds p z k e =
-    let t = asked h.passes 9 _ (some z) e in
+    let t = asked h.passes 9 _ (Some z) e in
     let v : value_in h.corners.height h.spacings (place_in h bounds p) ≡ z = cc t.1 in
     rw v at (between_within _ (passing k t.0).height k.place)
 
@@ -109,7 +111,7 @@ module _ (bounds : Geometry) (g : Grid) (p : Point) (s : Serves bounds g.correct
   pub cell_holds : Bounded bounds p → (h : HeldCell) → h ≡ held_at bounds g p → Holds h bounds p
   unfolding held_at
   cell_holds b h e =
-      let place = subst (InCellOf (spacings_of g.corrections)) (sym place_is) (in_cell s.bounded) in
+      let place = subst (InCell (spacings_of g.corrections)) (sym place_is) (in_cell s.bounded) in
       rw e (record { bounded = b; south = omega arith; west = omega arith; place = place; asked = refl })
 
   -- It is also the cell around a further point that the grid serves, and that lies in it.
@@ -187,36 +189,38 @@ module _ (bounds : Geometry) (g : Grid) (p : Point) (s : Serves bounds g.correct
       let f = corners_for g.corrections g.height p in
       let passes = cell_asked ∙ (λ i. cond (one i) (corrections_pass g p) (question9 g p)) in
       let corners : (held_at bounds g p).corners.height ≡ f = λ i. cond (one i) zeros f in
-      (λ i. ask (passes i) 9 (values (some (value_in (corners i) (spacings_of g.corrections) (place_is bounds g p s i)))))
-      ∙ (λ i. ask (question9 g p) 9 (values (some (value_at (sym same i) g.height p))))
+      (λ i. ask (passes i) 9 (values (Some (value_in (corners i) (spacings_of g.corrections) (place_is bounds g p s i)))))
+      ∙ (λ i. ask (question9 g p) 9 (values (Some (value_at (sym same i) g.height p))))
 
--- Where heights stand at the corrections' nodes, the corners that were read of the point's cell answer question 9, and have all values.
-module _ (g : Grid) (p : Point) (one : g.separate ≡ false) {cell : CellPlace} (e : cell ≡ cell_place g.corrections p)
-    {c : CellCorners} (r : c ≡ cell_corners g cell.row cell.column)
-  where
-    abbrev node_corners : CellCorners
-    node_corners =
-        record {
-          latitude = corners_for g.corrections g.latitude p;
-          longitude = corners_for g.corrections g.longitude p;
-          height = corners_for g.corrections g.height p;
-        }
+-- Where heights stand at the corrections' nodes, the corners of a point's cell answer question 9, and have all values.
+module _ (g : Grid) (p : Point) (one : g.separate ≡ false) where
+  pub node_asked : corners_pass (placed_cell g p).corners ≡ question9 g p
+  unfolding corners_pass question9
+  node_asked = rw one
 
-    corners_are : c ≡ node_corners
-    corners_are = r ∙ rw one (λ i. record {
-      latitude = corners g.latitude (e i).row (e i).column;
-      longitude = corners g.longitude (e i).row (e i).column;
-      height = corners g.height (e i).row (e i).column;
-    })
+  pub node_values_lem : values_in (placed_cell g p)
+      ≡ record { correction = corrections_at g p; height = value_at g.corrections g.height p }
+  unfolding value_at value_in
+  node_values_lem = rw one
 
-    pub node_asked : corners_pass c ≡ question9 g p
-    unfolding corners_pass question9
-    node_asked = ap corners_pass corners_are
+-- What question 9 says of the point's cell there, where its corners were answered.
+pub record Passed (g : Grid) (p : Point) (cell : Placed CellCorners) : Type 0 where
+  pub answer : question9 g p ≡ true
+  pub cell_is : placed_cell g p ≡ cell
+  pub corners : corners_pass cell.corners ≡ true
+  pub place : InCell cell.spacings cell.at
 
-    pub node_values_lem : values_in c (spacings_of g.corrections) cell.at
-        ≡ record { correction = corrections_at g p; height = value_at g.corrections g.height p }
-    unfolding value_at value_in
-    node_values_lem = λ i. values_in (corners_are i) (spacings_of g.corrections) (e i).at
+pub passed : (g : Grid) (p : Point) {cell : Placed CellCorners} → Bounded g.corrections p → g.separate ≡ false
+    → ask (question9 g p) 9 (values (placed_cell g p)) ≡ values cell → Passed g p cell
+passed g p b one e =
+    let t = asked (question9 g p) 9 _ _ e in
+    let same : placed_cell g p ≡ _ = cc t.1 in
+    record {
+      answer = t.0;
+      cell_is = same;
+      corners = subst (λ (k : Placed CellCorners). corners_pass k.corners ≡ true) same (node_asked g p one ∙ t.0);
+      place = subst (λ (k : Placed CellCorners). InCell k.spacings k.at) same (in_cell b);
+    }
 
 -- The grid that serves a point answers as the source does: a dense grid has its heights on a separate one.
 by_its_grid : (b : List ℕ) (l : Layout) (p : Point) → OpenAround b l p → let k = grid_for (grid_of b l) p in

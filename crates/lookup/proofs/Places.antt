@@ -6,11 +6,12 @@ use Rattle.rules.specs.declared.Geometry.{Geometry}
 use Rattle.rules.specs.declared.Point.{Point}
 use Rattle.rules.specs.Image.{rows, columns}
 use Rattle.rules.proofs.Cells.{cell_nodes, part_for_most, on_latitude, on_longitude}
+use Rattle.bilinear.specs.Mean.{InCell}
 use Rattle.lookup.specs.declared.CellPlace.{CellPlace}
-use Rattle.lookup.specs.Held.{Bounded, spacings_of, cell_place, InCellOf}
+use Rattle.lookup.specs.Held.{Bounded, spacings_of, cell_place}
 
 module _ {g : Geometry} {p : Point} (b : Bounded g p) where
-  pub in_cell : InCellOf (spacings_of g) (cell_place g p).at
+  pub in_cell : InCell (spacings_of g) (cell_place g p).at
   in_cell =
       let sized = b.geometry in
       record {
@@ -27,5 +28,5 @@ module _ {g : Geometry} {p : Point} (b : Bounded g p) where
         let sized = b.geometry in
         rw e (cell_nodes g.latitude _ sized.latitude.sized, cell_nodes g.longitude _ sized.longitude.sized)
 
-    pub place_inside : InCellOf (spacings_of g) c.at
-    place_inside = subst (λ (c : CellPlace). InCellOf (spacings_of g) c.at) (sym e) in_cell
+    pub place_inside : InCell (spacings_of g) c.at
+    place_inside = subst (λ (c : CellPlace). InCell (spacings_of g) c.at) (sym e) in_cell

@@ -1,32 +1,42 @@
 -- The cell around a point as it is read from an image, which points lie in such a cell, and the values there. Bounds are those of the
 -- corrections; a cell may be of a grid inside them.
-use Rattle.std.specs.Prelude.{Bool, true, false, cond, ◌&&◌, ◌≡◌, ℕ, ◌-◌, ◌≤◌, ℤ, pos}
+use Rattle.std.specs.Prelude.{Bool, true, false, cond, ◌&&◌, ◌≡◌, Some, Result, ℕ, ◌-◌, ◌≤◌, ℤ, pos}
 use Rattle.rules.specs.declared.Geometry.{Geometry}
 use Rattle.rules.specs.declared.Point.{Point}
 use Rattle.rules.specs.declared.Square.{Square}
 use Rattle.rules.specs.declared.Correction.{Correction}
+use Rattle.rules.specs.declared.Spacings.{Spacings}
+use Rattle.rules.specs.declared.PlaceInCell.{PlaceInCell}
+use Rattle.rules.specs.declared.Refusal.{Refusal}
 use Rattle.rules.specs.Units.{correction_limit, quasi_geoid_limit}
-use Rattle.rules.specs.Answers.{Outcome, values, number, number_of, ask}
+use Rattle.rules.specs.Answers.{Outcome, values, ask, mapped, outcome_of}
 use Rattle.rules.specs.Image.{Grid}
 use Rattle.rules.specs.Limits.{GeometryPasses}
 use Rattle.rules.specs.Bilinear.{offset, cell_for, part_for, corners, bilinear, value_at}
-use Rattle.rules.specs.Lookup.{Height, some, inside, square_passes, question9, corrections_at}
+use Rattle.rules.specs.Lookup.{Height, inside, square_passes, question9, corrections_at}
+use Rattle.image.specs.declared.fit.FitImage.{FitImage}
+use Rattle.image.specs.Fit.{grid_in}
 use Rattle.axis.specs.Place.{reaches}
-use Rattle.bilinear.specs.Mean.{Spacing, InCell}
-use Rattle.lookup.specs.declared.Spacings.{Spacings}
+use Rattle.bilinear.specs.Mean.{InCell}
 use Rattle.lookup.specs.declared.CellCorners.{CellCorners}
+use Rattle.lookup.specs.declared.Placed.{Placed}
 use Rattle.lookup.specs.declared.HeldCell.{HeldCell}
 use Rattle.lookup.specs.declared.PointValues.{PointValues}
-use Rattle.lookup.specs.declared.PointLookup.{PointLookup}
-use Rattle.lookup.specs.declared.PointLookup.TheVariants as looked-up
 use Rattle.lookup.specs.declared.Offsets.{Offsets}
-use Rattle.lookup.specs.declared.PlaceInCell.{PlaceInCell}
 use Rattle.lookup.specs.declared.CellPlace.{CellPlace}
 
 -- A point in the bounds of a geometry that questions 3 to 5 let pass.
 pub record Bounded (g : Geometry) (p : Point) : Type 0 where
   pub geometry : GeometryPasses g
   pub point : inside g p ≡ true
+
+-- A point in the bounds of a fit image.
+abbrev pub Around : FitImage → Point → Type 0
+Around i p = inside (grid_in i).corrections p ≡ true
+
+-- And of one whose heights stand at the corrections' nodes.
+abbrev pub NodesAround : FitImage → Point → Type 0
+NodesAround i p = Around i p × ((grid_in i).separate ≡ false)
 
 -- The spacings of a grid.
 abbrev pub spacings_of : Geometry → Spacings
@@ -45,12 +55,8 @@ cell_place g p =
       at = record { u = part_for g.latitude p.latitude; v = part_for g.longitude p.longitude };
     }
 
--- A square of four corner values.
-abbrev pub square : (sw se nw ne : ℤ) → Square
-square sw se nw ne = record { southwest = sw; southeast = se; northwest = nw; northeast = ne }
-
 abbrev pub zeros : Square
-zeros = square (pos 0) (pos 0) (pos 0) (pos 0)
+zeros = record { southwest = pos 0; southeast = pos 0; northwest = pos 0; northeast = pos 0 }
 
 -- The heights at the corners of the cell of a row and a column: zeros, which pass question 9, where they stand on a separate grid, since a
 -- cell of corrections then has none.
@@ -66,28 +72,32 @@ cell_corners g row column =
       height = height_corners g.separate g.height row column;
     }
 
+-- The corners of the cell of a point in the bounds of a grid.
+abbrev pub placed_cell : Grid → Point → Placed CellCorners
+placed_cell g p =
+    let cell = cell_place g.corrections p in
+    record { corners = cell_corners g cell.row cell.column; spacings = spacings_of g.corrections; at = cell.at }
+
 -- Question 9 of the three values at a cell's corners.
 unfoldable pub corners_pass : CellCorners → Bool
 corners_pass c =
     square_passes correction_limit c.latitude
     && (square_passes correction_limit c.longitude && square_passes quasi_geoid_limit c.height)
 
--- The cell with these corners in which a point in the bounds has a place.
-abbrev pub held_cell : (bounds : Geometry) → Point → PlaceInCell → Spacings → CellCorners → HeldCell
-held_cell bounds p at s c =
+-- The held cell of a point in the bounds, from its corners.
+abbrev pub held_cell : (bounds : Geometry) → Point → Placed CellCorners → HeldCell
+held_cell bounds p cell =
     record {
-      south = (offsets_of bounds p).northing - at.u;
-      west = (offsets_of bounds p).easting - at.v;
-      spacings = s;
-      corners = c;
-      passes = corners_pass c;
+      south = (offsets_of bounds p).northing - cell.at.u;
+      west = (offsets_of bounds p).easting - cell.at.v;
+      spacings = cell.spacings;
+      corners = cell.corners;
+      passes = corners_pass cell.corners;
     }
 
 -- The cell of a grid around a point in its bounds.
 unfoldable pub held_at : (bounds : Geometry) → Grid → Point → HeldCell
-held_at bounds g p =
-    let cell = cell_place g.corrections p in
-    held_cell bounds p cell.at (spacings_of g.corrections) (cell_corners g cell.row cell.column)
+held_at bounds g p = held_cell bounds p (placed_cell g p)
 
 -- The cell before one is read, in which no point lies.
 abbrev pub no_cell : HeldCell
@@ -110,21 +120,13 @@ lies_in h bounds p =
 abbrev pub place_in : HeldCell → (bounds : Geometry) → Point → PlaceInCell
 place_in h bounds p = record { u = (offsets_of bounds p).northing - h.south; v = (offsets_of bounds p).easting - h.west }
 
--- Spacings that question 4 lets pass.
-abbrev pub SpacingsPass : Spacings → Type 0
-SpacingsPass s = Spacing s.latitude × Spacing s.longitude
-
--- A place in a cell of these spacings, its sides included.
-abbrev pub InCellOf : Spacings → PlaceInCell → Type 0
-InCellOf s at = InCell at.u at.v s.latitude s.longitude
-
 -- A held cell holds a point in the bounds that is at or past both of its sides, and at most one spacing from each. The cell's answer to
 -- question 9 is that of its corners.
 pub record Holds (h : HeldCell) (bounds : Geometry) (p : Point) : Type 0 where
   pub bounded : Bounded bounds p
   pub south : h.south ≤ (offsets_of bounds p).northing
   pub west : h.west ≤ (offsets_of bounds p).easting
-  pub place : InCellOf h.spacings (place_in h bounds p)
+  pub place : InCell h.spacings (place_in h bounds p)
   pub asked : h.passes ≡ corners_pass h.corners
 
 -- The bilinear value of a square's corners at a place in a cell.
@@ -138,14 +140,15 @@ corrections_in h bounds p =
     record { latitude = value_in h.corners.latitude h.spacings at; longitude = value_in h.corners.longitude h.spacings at }
 
 abbrev pub height_in : HeldCell → (bounds : Geometry) → Point → Outcome Height
-height_in h bounds p = ask h.passes 9 (values (some (value_in h.corners.height h.spacings (place_in h bounds p))))
+height_in h bounds p = ask h.passes 9 (values (Some (value_in h.corners.height h.spacings (place_in h bounds p))))
 
--- All three values at a place in a cell.
-abbrev pub values_in : CellCorners → Spacings → PlaceInCell → PointValues
-values_in c s at =
+-- All three values at a point's place in its cell.
+abbrev pub values_in : Placed CellCorners → PointValues
+values_in cell =
+    let c = cell.corners in
     record {
-      correction = record { latitude = value_in c.latitude s at; longitude = value_in c.longitude s at };
-      height = value_in c.height s at;
+      correction = record { latitude = value_in c.latitude cell.spacings cell.at; longitude = value_in c.longitude cell.spacings cell.at };
+      height = value_in c.height cell.spacings cell.at;
     }
 
 -- What is found at a point: its corrections, and its height or that it has none.
@@ -158,12 +161,11 @@ point_found c z = record { correction = c; height = z }
 
 -- The lookup of all values at a point in the bounds, on one grid: question 9 for its cell, then the values.
 unfoldable pub node_lookup : Grid → Point → Outcome PointFound
-node_lookup g p = ask (question9 g p) 9 (values (point_found (corrections_at g p) (some (value_at g.corrections g.height p))))
+node_lookup g p = ask (question9 g p) 9 (values (point_found (corrections_at g p) (Some (value_at g.corrections g.height p))))
 
 -- The code's answer, in these terms.
 abbrev pub values_found : PointValues → PointFound
-values_found v = point_found v.correction (some v.height)
+values_found v = point_found v.correction (Some v.height)
 
-abbrev pub point_lookup_of : PointLookup → Outcome PointFound
-point_lookup_of (looked-up.Values v) = values (values_found v)
-point_lookup_of (looked-up.Refused r) = number (number_of r)
+abbrev pub point_lookup_of : Result PointValues Refusal → Outcome PointFound
+point_lookup_of result = mapped values_found (outcome_of result)

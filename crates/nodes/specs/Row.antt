@@ -1,9 +1,14 @@
--- A row of a plane: where it begins in an image, and its values in the part of the image that begins there.
-use Rattle.std.specs.Prelude.{List, ℕ, ◌+◌, ◌*◌, ℤ}
+-- A cell of a grid; a row of a plane: where it begins in an image, and its values in the part of the image that begins there.
+use Rattle.std.specs.Prelude.{List, ℕ, ◌+◌, ◌*◌, ◌<◌, ℤ}
+use Rattle.rules.specs.declared.Geometry.{Geometry}
 use Rattle.rules.specs.declared.Plane.{Plane}
 use Rattle.rules.specs.declared.Square.{Square}
-use Rattle.rules.specs.Image.{i32_at, columns}
+use Rattle.rules.specs.Image.{i32_at, rows, columns}
 use Rattle.nodes.specs.declared.Pair.{Pair}
+
+-- The cell of a row and a column is one of the grid's.
+abbrev pub CellIn : Geometry → (row column : ℕ) → Type 0
+CellIn g row column = (row + 1 < rows g) × (column + 1 < columns g)
 
 -- Where a row's first value begins.
 abbrev pub row_start : Plane → ℕ → ℕ

@@ -1,13 +1,13 @@
 // The values of an opened image: each is read from the part of the image that begins at its row's first value.
 #![tactic(auto)]
 
-ghost use Rattle.std.specs.Prelude.{◌&&◌, ◌≡◌, ◌+◌, ◌*◌, ◌≤◌, ◌<◌, length, drop};
-ghost use Rattle.rules.specs.Units.{count_most, within};
+ghost use Rattle.std.specs.Prelude.{◌≡◌, ◌+◌, ◌*◌, ◌≤◌, ◌<◌, length, drop};
+ghost use Rattle.rules.specs.Units.{count_most};
 ghost use Rattle.rules.specs.Image.{rows, columns, plane, beside_of};
 ghost use Rattle.rules.specs.Limits.{InImage};
 ghost use Rattle.rules.specs.Bilinear.{corners};
 ghost use Rattle.rules.specs.Lookup.{square_passes};
-ghost use Rattle.nodes.specs.Row.{row_start, value_in, pair_of, square_of};
+ghost use Rattle.nodes.specs.Row.{CellIn, row_start, value_in, pair_of, square_of};
 ghost use Rattle.nodes.specs.Either.{either, node_values, CellInside};
 
 use numbers::{i32_at, is_within};
@@ -22,18 +22,19 @@ struct Pair {
 
 // The corners of the cell whose south-west node is that of a row and a column, of one plane's values.
 pub fn corners_at(image: &[u8], p: Plane, row: u64, column: u64) -> Square
-    requires { InImage (length image.now) p × ((row + 1 < rows p.geometry) × (column + 1 < columns p.geometry)) }
+    requires { InImage (length image.now) p × CellIn p.geometry row column }
     ensures { result ≡ corners (plane image.now p) row column }
 {
-    let south = pair_at(image, p, row, column);
-    let north = pair_at(image, p, row + 1, column);
-    square_of(south, north)
+    square_of(
+        pair_at(image, p, row, column),
+        pair_at(image, p, row + 1, column),
+    )
 }
 
 // The same of the dense nodes or of the coarse ones, as `in_dense` says, from the bytes that begin with the first value of each.
-pub fn corners_of_either<'a>(
-    dense: &'a [u8],
-    coarse: &'a [u8],
+pub fn corners_of_either(
+    dense: &[u8],
+    coarse: &[u8],
     in_dense: bool,
     stride: u64,
     columns: u64,
@@ -48,20 +49,23 @@ pub fn corners_of_either<'a>(
     let next = (stride * ((row + 1) * columns)) as usize;
     let south = row_bytes(dense, coarse, in_dense, at);
     let north = row_bytes(dense, coarse, in_dense, next);
-    let below = pair_in(south, stride, column);
-    let above = pair_in(north, stride, column);
-    square_of(below, above)
+    square_of(
+        pair_in(south, stride, column),
+        pair_in(north, stride, column),
+    )
 }
 
-// The bytes from a row's first value on, `at` bytes into the dense nodes or into the coarse ones, as `in_dense` says.
+// The bytes from a row's first value on, `at` bytes into the dense nodes or into the coarse ones, as `in_dense` says. Document 01
+// names this form: a part of one of two lent slices is handed back.
 fn row_bytes<'a>(dense: &'a [u8], coarse: &'a [u8], in_dense: bool, at: usize) -> &'a [u8]
     requires { at ≤ length (either in_dense dense.now coarse.now) }
     ensures { result.now ≡ drop at (either in_dense dense.now coarse.now) }
 {
     if in_dense {
-        return &dense[at..];
+        &dense[at..]
+    } else {
+        &coarse[at..]
     }
-    &coarse[at..]
 }
 
 // The corners from those of the south row and of the north row.
@@ -76,7 +80,8 @@ fn square_of(south: Pair, north: Pair) -> Square
     }
 }
 
-// The values of a row at a column and at the next.
+// The values of a row at a column and at the next. Document 01 names this form: the part of the image that begins at the row's first value
+// is lent on.
 fn pair_at(image: &[u8], p: Plane, row: u64, column: u64) -> Pair
     requires { InImage (length image.now) p × ((row < rows p.geometry) × (column + 1 < columns p.geometry)) }
     ensures { result ≡ pair_of (plane image.now p row) column }
@@ -90,9 +95,10 @@ fn pair_in(row: &[u8], stride: u64, column: u64) -> Pair
     requires { (column < count_most) × (stride * (column + 1) + 4 ≤ length row.now) }
     ensures { result ≡ pair_of (value_in row.now stride) column }
 {
-    let west = value_in(row, stride, column);
-    let east = value_in(row, stride, column + 1);
-    Pair { west, east }
+    Pair {
+        west: value_in(row, stride, column),
+        east: value_in(row, stride, column + 1),
+    }
 }
 
 // Where a row's first value begins, in an image of so many bytes.
@@ -108,11 +114,9 @@ pub fn beside(size: u64, p: Plane) -> Plane
     requires { InImage size p }
     ensures { result ≡ beside_of p }
 {
-    let geometry = p.geometry;
     Plane {
-        geometry,
         first: p.first + 4,
-        stride: p.stride,
+        ..p
     }
 }
 
@@ -125,23 +129,10 @@ fn value_in(row: &[u8], stride: u64, column: u64) -> i64
 }
 
 // Question 9 of one value's four corners.
+#[tactic(auto, unfolding(rules::specs::Lookup::square_passes))]
 pub fn square_passes(c: Square, limit: u64) -> bool
     ensures { result ≡ square_passes limit c }
 {
-    if both_within(c.southwest, c.southeast, limit) {
-        both_within(c.northwest, c.northeast, limit)
-    } else {
-        false
-    }
-}
-
-// Question 9 of two values.
-fn both_within(west: i64, east: i64, limit: u64) -> bool
-    ensures { result ≡ (within limit west && within limit east) }
-{
-    if is_within(west, limit) {
-        is_within(east, limit)
-    } else {
-        false
-    }
+    (is_within(c.southwest, limit) && is_within(c.southeast, limit))
+        && (is_within(c.northwest, limit) && is_within(c.northeast, limit))
 }

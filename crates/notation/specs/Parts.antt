@@ -1,5 +1,6 @@
 -- The rule of reading in the parts that the code answers: the amounts of question 13, and the side of zero that a letter means.
-use Rattle.std.specs.Prelude.{Bool, true, false, cond, ◌&&◌, ◌||◌, ◌≡◌, refl, ℕ, ◌*◌, ◌≤◌, ◌<◌, leb, ltb, eqb, ℤ, pos, neg_ℤ}
+use Rattle.std.specs.Prelude.{Bool, true, false, cond, Option, Some, None, ◌&&◌, ◌||◌, ◌≡◌}
+use Rattle.std.specs.Prelude.{refl, ℕ, ◌*◌, ◌≤◌, ◌<◌, leb, ltb, eqb, ℤ, pos, neg_ℤ}
 use Rattle.std.proofs.Common.{arith, ltb-true, leb-true, lt-ltb, eqb-true, ne_eqb}
 use Rattle.integers.specs.Booleans.{and_left, and_right}
 use Rattle.rules.specs.declared.Notation.{Notation}
@@ -7,27 +8,27 @@ use Rattle.rules.specs.Answers.{Outcome, values, number, ask}
 use Rattle.rules.specs.Notation.{per_degree, per_minute, total, axis_limit, positive_letter, negative_letter}
 use Rattle.rules.specs.Notation.{readable, magnitude_read, read_notation}
 use Rattle.notation.specs.declared.Side.{Side}
-use Rattle.notation.specs.declared.Side.TheVariants.{Positive, Negative, Neither}
+use Rattle.notation.specs.declared.Side.TheVariants.{Positive, Negative}
 
 -- Minutes below 60, hundred-thousandths below 6,000,000, a total within the axis's limit.
 unfoldable pub amounts_fit : Bool → Notation → Bool
 amounts_fit longitude n = ltb n.minutes 60 && (ltb n.fraction per_minute && leb (total n) (axis_limit longitude * per_degree))
 
--- The side that a letter means on an axis: neither, where it is no letter of the axis.
-abbrev pub side_of : Bool → ℕ → Side
+-- The side that a letter means on an axis: none, where it is no letter of the axis.
+abbrev pub side_of : Bool → ℕ → Option Side
 side_of longitude letter =
-    cond (eqb letter (positive_letter longitude)) Positive
-    (cond (eqb letter (negative_letter longitude)) Negative Neither)
+    cond (eqb letter (positive_letter longitude)) (Some Positive)
+    (cond (eqb letter (negative_letter longitude)) (Some Negative) None)
 
 -- The angle of a size on a side of zero, or 13.
-abbrev pub angle_on : Side → ℕ → Outcome ℤ
-angle_on Positive size = values (pos size)
-angle_on Negative size = values (neg_ℤ (pos size))
-angle_on Neither size = number 13
+abbrev pub angle_on : Option Side → ℕ → Outcome ℤ
+angle_on (Some Positive) size = values (pos size)
+angle_on (Some Negative) size = values (neg_ℤ (pos size))
+angle_on None size = number 13
 
 -- The rule of reading in two of these parts: the amounts, and the letter.
 in_parts : (a b u l d : Bool) (size : ℕ) → (u ≡ true → l ≡ false) →
-    let side = cond u Positive (cond l Negative Neither) in
+    let side = cond u (Some Positive) (cond l (Some Negative) None) in
     let angle = values (cond l (neg_ℤ (pos size)) (pos size)) in
     ask (a && (b && ((u || l) && d))) 13 angle ≡ ask (a && (b && d)) 13 (angle_on side size)
 in_parts false b u l d size h = refl

@@ -1,7 +1,8 @@
 -- Document 01: "Reading then writing returns the notation, save a zero with S or W." The other way round, writing then reading returns
 -- every angle that can be written within 1 nd; and no zero is written with S or W (document 02, note 7).
 -- What is read lies within the axis's limit and has the size of the total; its letter is that of its sign, unless the total is zero.
-use Rattle.std.specs.Prelude.{Bool, true, false, cond, ◌&&◌, ◌⊎◌, ◌≡◌, refl, ℕ, ◌*◌, ◌≤◌, ◌<◌, ltb, eqb, ℤ, pos, neg_ℤ, nat_abs, ◌-ℤ◌}
+use Rattle.std.specs.Prelude.{Bool, true, false, cond, Some, None, ◌&&◌, ◌⊎◌, ◌≡◌, refl}
+use Rattle.std.specs.Prelude.{ℕ, ◌*◌, ◌≤◌, ◌<◌, ltb, eqb, ℤ, pos, neg_ℤ, nat_abs, ◌-ℤ◌}
 use Rattle.std.proofs.Common.{inl, inr, ⊎_elim, ◌∙◌, eq-zero-or-pos, arith, le-leb, leb-true, eqb-true}
 use Rattle.std.proofs.Math.Path.{sym, ap}
 use Rattle.std.specs.Int.Signed.{lt_z}
@@ -15,13 +16,13 @@ use Rattle.rules.specs.Units.{degrees}
 use Rattle.rules.specs.Answers.{values}
 use Rattle.rules.specs.Notation.{per_degree, total, axis_limit, positive_letter, negative_letter, magnitude_read, total_written, split}
 use Rattle.rules.specs.Notation.{letter_written, read_notation, write_notation}
-use Rattle.notation.specs.declared.Side.TheVariants.{Positive, Negative, Neither}
+use Rattle.notation.specs.declared.Side.TheVariants.{Positive, Negative}
 use Rattle.notation.specs.Parts.{amounts_fit, side_of, angle_on, read_in_parts, Amounts, amounts, by_total}
 use Rattle.notation.specs.Totals.{total_back, size_back, read_most, written_most, read_above, read_zero}
 use Rattle.notation.specs.Totals.{lettered, split_total, total_split}
 
 -- An angle is on the positive side with the positive letter, or on the negative side with the negative one.
-by_side : (u l : Bool) (m : ℕ) (z : ℤ) → angle_on (cond u Positive (cond l Negative Neither)) m ≡ values z
+by_side : (u l : Bool) (m : ℕ) (z : ℤ) → angle_on (cond u (Some Positive) (cond l (Some Negative) None)) m ≡ values z
     → ((u ≡ true) × (z ≡ pos m)) ⊎ ((l ≡ true) × (z ≡ neg_ℤ (pos m)))
 by_side true l m z h = inl (refl, cc)
 by_side false true m z h = inr (refl, cc)

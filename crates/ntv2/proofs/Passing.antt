@@ -3,14 +3,17 @@ use mathlib.Core.Bool.{Bool, true, false, ◌&&◌}
 use mathlib.Core.List.{List}
 use mathlib.Core.Path.{◌≡◌, refl, subst}
 use Prim.Native.Nat.{ℕ, ◌+◌, ◌-◌, ◌*◌, ◌≤◌}
+use native.Mathlib.Nat.{mul-le-mul}
 use native.Mathlib.Omega.{arith}
 use lib.Dec.{leb, eqb}
-use lib.ListN.{length, length-drop}
+use lib.ListN.{length, drop, length-drop}
 use borrow.Author.Tests.{leb-true, eqb-true}
+use Rattle.std.proofs.lemmas.Grind.{common_steps}
 use Rattle.integers.specs.Booleans.{and_left, and_right}
 use Rattle.rules.specs.declared.FileGrids.{FileGrids}
-use Rattle.rules.specs.Answers.{values}
-use Rattle.rules.specs.Image.{node_count}
+use Rattle.rules.specs.Answers.{ask, values, number}
+use Rattle.rules.specs.Units.{count_most}
+use Rattle.rules.specs.Image.{rows, columns, node_count}
 use Rattle.rules.specs.Limits.{GeometryPasses, SmallGeometry, BothHandedBack}
 use Rattle.rules.specs.Ntv2.{none_text, overview_passes, name_of, parent_of, grid_header_of, header_passes, grid_passes, closed}
 use Rattle.rules.specs.Ntv2.{first_grid, subgrid_after, has_subgrid, subgrid_passes, rest_passes, question18, subgrid_header_of, grids_of}
@@ -37,6 +40,31 @@ grid_is g parent room h =
       geometry = header_establishes g (and_left (header_passes g) space j);
       room_is = eqb-true room (8 * node_count (grid_header_of g)) (and_right (header_passes g) space j);
     }
+
+-- So it has no more nodes than a grid may have, as a header that passes.
+pub header_sized : (g : List ℕ) → header_passes g ≡ true → let h = grid_header_of g in (rows h ≤ count_most) × (columns h ≤ count_most)
+header_sized g h = let p = header_establishes g h in (p.latitude.sized.count_most, p.longitude.sized.count_most)
+
+pub grid_sized : (g : List ℕ) (parent room : ℕ) → grid_passes g parent room ≡ true → let h = grid_header_of g in
+    (176 ≤ length g) × (rows h ≤ count_most) × (columns h ≤ count_most)
+grid_sized g parent room h =
+    let i = grid_is g parent room h in
+    (i.long, i.geometry.latitude.sized.count_most, i.geometry.longitude.sized.count_most)
+
+pub nodes_most : (rows columns : ℕ) → rows ≤ count_most → columns ≤ count_most → rows * columns ≤ count_most * count_most
+nodes_most rows columns h k = mul-le-mul {n₂ = count_most} {m₂ = count_most} h k
+
+-- A file that ends before a grid begins has none there; one with an overview, and with a first grid, is as long.
+pub too_short : (b : List ℕ) (n parent room : ℕ) → length b ≤ n → grid_passes (drop n b) parent room ≡ false
+unfolding grid_passes
+too_short b n parent room h = grind (arith, common_steps, length-drop n b)
+
+pub overview_long : (b : List ℕ) → overview_passes b ≡ true → 176 ≤ length b
+unfolding overview_passes
+overview_long b h = grind (arith, common_steps)
+
+pub first_long : (b : List ℕ) (parent room : ℕ) → grid_passes (first_grid b) parent room ≡ true → 352 ≤ length b
+first_long b parent room h = omega (arith, (grid_is (first_grid b) parent room h).long, length-drop 176 b)
 
 -- What follows the first grid in a file that passes: its nodes end where a subgrid or END begins, and a subgrid has room for its own.
 pub record RestIs (b : List ℕ) (nodes room : ℕ) : Type 0 where
@@ -116,3 +144,8 @@ converted_small b room dense_room = both_handed_back (corrections_from b room de
         let i = c.0 in
         subst (λ (g : FileGrids). SmallGeometry g.coarse × SmallGeometry g.dense) c.2
         (passes_small (grid_header_of (first_grid b)) i.coarse.geometry, i.rest.geometry)
+
+-- Tests of which the first fails are refused with its number.
+pub first_refused : {A B : Type 0} (s t : Bool) (n m : ℕ) (a : A) (b : B) → ask s n (values a) ≡ number m → ask (s && t) n (values b) ≡ number m
+first_refused true t n m a b e = let z : ◌≡◌ {A = ℕ} 0 1 = cc in absurd (omega arith)
+first_refused false t n m a b e = cc

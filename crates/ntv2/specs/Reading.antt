@@ -1,17 +1,16 @@
--- What the code reads of a node: the correction that a shift becomes, where it is fit.
-use Rattle.std.specs.Prelude.{Bool, true, cond, ◌&&◌, List, ◌≡◌, ℕ, ◌<◌}
+-- What the code asks of a grid: that its bytes have its nodes, and of a shift that it becomes a correction within the limit.
+use Rattle.std.specs.Prelude.{Bool, true, ◌&&◌, List, ◌≡◌, ℕ, ◌-◌, ◌*◌, ◌≤◌, ◌<◌, length}
 use Rattle.rules.specs.Units.{within, correction_limit}
 use Rattle.rules.specs.Floats.{binary32, finite, value_of}
 use Rattle.rules.specs.Ntv2.{arcseconds, turned, shifts_fit, file_node}
-use Rattle.floats.specs.declared.Nearest.{Nearest}
-use Rattle.floats.specs.declared.Nearest.TheVariants as nearest
+
+-- So many nodes after a grid's header, of sixteen bytes each.
+abbrev pub HasNodes : List ℕ → (nodes : ℕ) → Type 0
+HasNodes g nodes = 16 * nodes ≤ length g - 176
 
 -- A shift by its bits, finite and with a correction within the limit.
 unfoldable pub shift_fits : (bits : ℕ) → Bool
 shift_fits bits = finite binary32 bits && within correction_limit (arcseconds (value_of binary32 bits))
-
-abbrev pub shift_read : (bits : ℕ) → Nearest
-shift_read bits = cond (shift_fits bits) (nearest.Whole (arcseconds (value_of binary32 bits))) nearest.Unfit
 
 -- The same of one whose sign is turned.
 unfoldable pub turned_fits : (bits : ℕ) → Bool

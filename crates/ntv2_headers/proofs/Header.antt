@@ -12,15 +12,18 @@ use borrow.Author.Tests.{le-leb, lt-ltb, eqb-true}
 use Rattle.integers.specs.Booleans.{and_left, and_right, and_both, and_false}
 use Rattle.integers.specs.Difference.{var, lit, ◌⊖◌, ◌⊕◌}
 use Rattle.integers.specs.Machine.{zarith}
-use Rattle.rules.specs.Units.{latitude_limit, longitude_limit, spacing_most}
-use Rattle.rules.specs.Image.{node_count}
-use Rattle.rules.specs.Questions.{questions_3_to_5}
+use Rattle.std.specs.Prelude.{Some}
+use Rattle.rules.specs.declared.Geometry.{Geometry}
+use Rattle.rules.specs.Units.{count_most, latitude_limit, longitude_limit, spacing_most}
+use Rattle.rules.specs.Image.{rows, columns, node_count}
+use Rattle.rules.specs.Questions.{question3, questions_3_to_5}
 use Rattle.rules.specs.Limits.{AxisPasses, GeometryPasses}
 use Rattle.rules.specs.Files.{natural}
 use Rattle.rules.specs.Ntv2.{count_at, labelled, arcseconds, Extent, latitude_extent, longitude_extent, spacing_of, difference_of, axis_of}
 use Rattle.rules.specs.Ntv2.{grid_header_of, whole, three_finite, header_passes}
-use Rattle.rules.proofs.Files.{natural_most, questions_establish, both_axes}
-use Rattle.ntv2_headers.specs.Reading.{angle_within, extent_fits}
+use Rattle.rules.proofs.Files.{kept, natural_most, questions_establish, both_axes}
+use Rattle.rules.proofs.Opening.{nodes_most}
+use Rattle.ntv2_headers.specs.Reading.{angle_within, extent_fits, geometry_read}
 
 -- ---- an axis
 
@@ -99,3 +102,18 @@ header_establishes b h =
     let i = and_right (labelled b 11) (latitude && (longitude && (q && n))) h in
     let j = and_right latitude (longitude && (q && n)) i in
     questions_establish g (and_left q n (and_right longitude (q && n) j))
+
+-- A geometry that passes has not too many nodes.
+pub counted : (g : Geometry) → questions_3_to_5 g ≡ true → rows g * columns g ≤ count_most * count_most
+unfolding questions_3_to_5
+counted g h = nodes_most g (and_left (question3 g) _ h)
+
+-- So with the labels and a geometry that was read, the last two tests decide.
+pub header_read : (b : List ℕ) (g : Geometry) → labelled b 11 ≡ true → geometry_read b ≡ Some g
+    → (grid_header_of b ≡ g) × (header_passes b ≡ (questions_3_to_5 g && eqb (count_at b 168) (node_count g)))
+header_read b g l r =
+    let latitude = three_finite b 72 88 136 && extent_fits (latitude_extent b) in
+    let longitude = three_finite b 120 104 152 && extent_fits (longitude_extent b) in
+    let k = kept (latitude && longitude) (grid_header_of b) g r in
+    let last : Geometry → Bool = λ g. questions_3_to_5 g && eqb (count_at b 168) (node_count g) in
+    (k.1, header_tested b ∙ rw (l, and_left latitude longitude k.0, and_right latitude longitude k.0) (ap last k.1))

@@ -1,20 +1,16 @@
 // An opened image: a record that refers to the lent bytes and holds the layout of its values, with few thin functions over it.
 // Each leaves the work to a function on the slice and the layout. What it promises is what that function does, read at the record's
-// fields, whatever the function: `over` and `through` say so once, over any contract. Opening does not answer the record: the caller
-// matches `image::open` and makes the record of the layout found, as `way_out` does.
+// fields, whatever the function: `over` and `through` say so once, over any contract.
 #![tactic(auto)]
 
 ghost use Rattle.std.specs.Prelude.{◌≡◌};
-ghost use Rattle.rules.specs.Answers.{values};
-ghost use Rattle.rules.specs.Image.{layout_for};
-ghost use Rattle.rules.specs.Questions.{opening};
-ghost use Rattle.rules.specs.Lookup.{height_lookup_of};
+ghost use Rattle.rules.specs.Answers.{outcome_of};
 ghost use Rattle.rules.specs.Ways.{way_out, answer_of};
 ghost use Rattle.rules.specs.Limits.{OpenFor};
-ghost use Rattle.opened.specs.Over.{Opens, IsLookup, IsOut, quasi_geoid_height};
+ghost use Rattle.opened.specs.Over.{Opens, IsLookup, IsOut, opened, quasi_geoid_height};
 
-use image::{layout_of, open};
-use rules::{Answer, HeightLookup, Layout, Opened, Point, Refusal, Way};
+use image::FitImage;
+use rules::{Converted, Fix, Layout, Point, Refusal, Way};
 use source::{is_inside, look_up_height};
 use ways::convert_over;
 
@@ -25,18 +21,19 @@ pub struct OpenedImage<'a> {
     pub layout: Layout,
 }
 
-// A point and its height: what a conversion starts from.
-#[derive(Clone, Copy)]
-pub struct Fix {
-    pub point: Point,
-    pub height: i64,
-}
-
 // The record of these bytes and this layout.
 pub fn opened_image<'a>(bytes: &'a [u8], layout: Layout) -> OpenedImage<'a>
     ensures { (result.bytes ≡ bytes.entry) × (result.layout ≡ layout) }
 {
     OpenedImage { bytes, layout }
+}
+
+// The record of any bytes: questions 1 to 6.
+pub fn open<'a>(bytes: &'a [u8]) -> Result<OpenedImage<'a>, Refusal>
+    ensures { outcome_of result ≡ opened bytes.entry }
+{
+    let fit = image::open(bytes)?;
+    Ok(opened_image(bytes, fit.layout))
 }
 
 // A function of the bytes, the layout and one thing more, over the record: whatever it asks of them and tells of its result holds of the
@@ -63,72 +60,51 @@ pub fn through<X, R, F: FnOnce(OpenedImage<'_>, X) -> R>(
 }
 
 // The lookup of the quasi-geoid height at a point in its bounds, if it has any.
-pub fn look_up_in<'a>(image: OpenedImage<'a>, p: Point) -> HeightLookup
+pub fn look_up_in<'a>(image: OpenedImage<'a>, p: Point) -> Result<Option<i64>, Refusal>
     requires { OpenFor image.bytes.now image.layout p }
     ensures { IsLookup image.entry.bytes.now image.entry.layout p result }
 {
-    over(image, p, look_up_height)
+    over(image, p, look_up_fit)
 }
 
-// The way out of a fix over it.
-pub fn out_over_image<'a>(image: OpenedImage<'a>, f: Fix) -> Answer
-    requires { Opens image.bytes.now image.layout f }
-    ensures { IsOut image.entry.bytes.now image.entry.layout f result }
-{
-    over(image, f, fix_out)
-}
-
-// The way out of a fix, on the slice and the layout.
-fn fix_out(bytes: &[u8], l: Layout, f: Fix) -> Answer
-    requires { Opens bytes.now l f }
-    ensures { IsOut bytes.now l f result }
-{
-    convert_over(Way::Out, bytes, l, f.point, f.height)
-}
-
-// The record made and handed on, for the way out and for the lookup.
-fn out_through(bytes: &[u8], layout: Layout, f: Fix) -> Answer
-    requires { Opens bytes.now layout f }
-    ensures { IsOut bytes.now layout f result }
-{
-    through(bytes, layout, f, out_over_image)
-}
-
-fn look_up_through(bytes: &[u8], layout: Layout, p: Point) -> HeightLookup
+// The same on the slice and the layout, which make a fit image.
+fn look_up_fit(bytes: &[u8], layout: Layout, p: Point) -> Result<Option<i64>, Refusal>
     requires { OpenFor bytes.now layout p }
     ensures { IsLookup bytes.now layout p result }
 {
-    through(bytes, layout, p, look_up_in)
+    look_up_height(&FitImage { bytes, layout }, p)
+}
+
+// The way out of a fix over it.
+pub fn out_over_image<'a>(image: OpenedImage<'a>, f: Fix) -> Result<Converted, Refusal>
+    requires { Opens image.bytes.now image.layout f }
+    ensures { IsOut image.entry.bytes.now image.entry.layout f result }
+{
+    over(image, f, out_fit)
+}
+
+// The same on the slice and the layout.
+fn out_fit(bytes: &[u8], layout: Layout, f: Fix) -> Result<Converted, Refusal>
+    requires { Opens bytes.now layout f }
+    ensures { IsOut bytes.now layout f result }
+{
+    convert_over(Way::Out, &FitImage { bytes, layout }, f)
 }
 
 // The way out through an opened image, for every image, point and height: questions 1 to 6 first.
-pub fn way_out(bytes: &[u8], p: Point, height: i64) -> Answer
-    ensures { answer_of result ≡ way_out bytes.now p height }
+pub fn way_out(bytes: &[u8], fix: Fix) -> Result<Converted, Refusal>
+    ensures { answer_of result ≡ way_out bytes.now fix.point fix.height }
 {
-    match open(bytes) {
-        Opened::Separate(s) => out_through(bytes, layout_of(bytes, s), Fix { point: p, height }),
-        Opened::Refused(r) => Answer::Refused(r),
-    }
+    out_over_image(open(bytes)?, fix)
 }
 
-// The quasi-geoid height through an opened image, for every image and point: questions 1 to 6 first.
-pub fn quasi_geoid_height(bytes: &[u8], q: Point) -> HeightLookup
-    ensures { height_lookup_of result ≡ quasi_geoid_height bytes.now q }
+// The quasi-geoid height through an opened image, for every image and point: questions 1 to 6 first, then 8, then the lookup.
+pub fn quasi_geoid_height(bytes: &[u8], q: Point) -> Result<Option<i64>, Refusal>
+    ensures { outcome_of result ≡ quasi_geoid_height bytes.now q }
 {
-    match open(bytes) {
-        Opened::Separate(s) => height_over_image(bytes, s, q),
-        Opened::Refused(r) => HeightLookup::Refused(r),
+    let image = open(bytes)?;
+    if !is_inside(image.layout, q) {
+        return Err(Refusal::OutsideBounds);
     }
-}
-
-// The same over an opened image: question 8, then the lookup.
-fn height_over_image(bytes: &[u8], separate: bool, q: Point) -> HeightLookup
-    requires { opening bytes.now ≡ values (layout_for bytes.now separate) }
-    ensures { height_lookup_of result ≡ quasi_geoid_height bytes.now q }
-{
-    let l = layout_of(bytes, separate);
-    if !is_inside(l, q) {
-        return HeightLookup::Refused(Refusal::OutsideBounds);
-    }
-    look_up_through(bytes, l, q)
+    look_up_in(image, q)
 }

@@ -1,5 +1,5 @@
 -- Where the parts of an image that can be converted lie, and that each value of a plane is in it.
-use mathlib.Core.Bool.{true, false}
+use mathlib.Core.Bool.{true}
 use mathlib.Core.List.{List, ◌++◌}
 use mathlib.Core.Path.{◌≡◌, sym, ◌∙◌}
 use Prim.Native.Nat.{ℕ, ◌+◌, ◌-◌, ◌*◌, ◌/◌, ◌%◌, ◌≤◌, ◌<◌}
@@ -12,8 +12,8 @@ use Rattle.integers.specs.Booleans.{and_left}
 use Rattle.rules.specs.declared.Plane.{Plane}
 use Rattle.rules.specs.declared.Layout.{Layout}
 use Rattle.rules.specs.Units.{count_most}
-use Rattle.rules.specs.Answers.{values, number, ask}
-use Rattle.rules.specs.Image.{edition_of, two_grid_trailer_of, rows, columns, node_count}
+use Rattle.rules.specs.Answers.{values}
+use Rattle.rules.specs.Image.{edition_of, rows, columns, node_count}
 use Rattle.rules.specs.Questions.{opening}
 use Rattle.rules.specs.Limits.{InImage}
 use Rattle.rules.specs.Planes.{is_of_kind, bytes_from_nodes, convertible}
@@ -31,6 +31,12 @@ value_inside {size} {p} o n h =
     let place : n / wide * wide + n % wide ≡ n = omega (arith, div-add-mod n wide) in
     rw place at (o.bytes (n / wide) (n % wide) row column)
 
+-- A plane begins in the image.
+pub begins_inside : {size : ℕ} {p : Plane} → InImage size p → p.first ≤ size
+begins_inside {size} {p} o =
+    let g = o.geometry in
+    omega (arith, o.bytes 0 0 (omega (arith, g.latitude.sized.count_least)) (omega (arith, g.longitude.sized.count_least)))
+
 -- A node has eight bytes, and a plane at most 4,096 × 4,096 values.
 pub node_long : (b : List ℕ) (first second : ℕ) → first + 4 ≤ length b → second + 4 ≤ length b
     → length (take 4 (drop first b) ++ take 4 (drop second b)) ≡ 8
@@ -45,15 +51,9 @@ values_most o =
 pub record Fits (b : List ℕ) (l : Layout) (room : ℕ) : Type 0 where
   pub is_open : opening b ≡ values l
   pub separate : l.separate ≡ true
+  pub whole : room ≡ length b - l.latitude.first
   pub parts : room ≡ 8 * node_count l.latitude.geometry + (length b - l.height.first)
   pub trailer : l.height.first + 80 ≤ length b
-
--- The bytes from the first node on are as many as the trailer's back to it.
-pub bytes_from_nodes_lem : (b : List ℕ) (l : Layout) → opening b ≡ values l → l.separate ≡ true
-    → bytes_from_nodes b l ≡ (two_grid_trailer_of b).corrections.back
-bytes_from_nodes_lem b l h e =
-    let f = first_nodes b l h e in
-    omega (arith, f.corrections, f.enough)
 
 pub fits : (kind : ℕ) (b : List ℕ) (room : ℕ) (l : Layout) → convertible kind b room ≡ values l → Fits b l room
 unfolding convertible is_of_kind
@@ -70,22 +70,7 @@ fits kind b room l h =
     record {
       is_open = opens;
       separate = separate;
+      whole = whole;
       parts = omega (arith, whole, f.corrections, f.heights, f.between, f.enough);
       trailer = omega (arith, f.heights, f.between, f.enough, f.trailer);
     }
-
--- The refusals of an image that does not open, of one of edition 1, and of one of edition 2, by its trailer.
-pub not_open : (kind : ℕ) (b : List ℕ) (room n : ℕ) → opening b ≡ number n → convertible kind b room ≡ number n
-unfolding convertible
-not_open kind b room n h = rw h
-
-pub edition_1 : (kind : ℕ) (b : List ℕ) (room : ℕ) (l : Layout) → opening b ≡ values l → l.separate ≡ false
-    → convertible kind b room ≡ number 2
-unfolding convertible is_of_kind
-edition_1 kind b room l h e = rw (h, edition_is b l h ∙ e)
-
-pub edition_2 : (kind : ℕ) (b : List ℕ) (room : ℕ) (l : Layout) → opening b ≡ values l → l.separate ≡ true →
-    let t = two_grid_trailer_of b in
-    convertible kind b room ≡ ask (eqb t.kind kind) 2 (ask (eqb room t.corrections.back) 14 (values l))
-unfolding convertible is_of_kind
-edition_2 kind b room l h e = rw (h, edition_is b l h ∙ e, bytes_from_nodes_lem b l h e)

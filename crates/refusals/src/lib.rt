@@ -2,7 +2,7 @@
 #![tactic(auto)]
 
 ghost use Rattle.std.specs.Prelude.{◌≡◌, pos};
-ghost use Rattle.rules.specs.Answers.{number_of};
+ghost use Rattle.rules.specs.Answers.{number_of, outcome_of, status_of};
 
 use rules::Refusal;
 
@@ -10,28 +10,15 @@ use rules::Refusal;
 pub fn refusal_number(r: Refusal) -> i64
     ensures { result ≡ pos (number_of r) }
 {
-    match r {
-        Refusal::ImageLength => 1,
-        Refusal::Edition => 2,
-        Refusal::NodeCount => 3,
-        Refusal::Spacing => 4,
-        Refusal::GridBounds => 5,
-        Refusal::NodeBytes => 6,
-        Refusal::FixLimits => 7,
-        Refusal::OutsideBounds => 8,
-        Refusal::NodeLimits => 9,
-        Refusal::IterateOutside => 10,
-        Refusal::NotSettled => 11,
-        Refusal::Slope => 12,
-        Refusal::BadNotation => 13,
-        Refusal::ListLengths => 14,
-        Refusal::OffHeightGrid => 15,
-        Refusal::VdatumFile => 16,
-        Refusal::VdatumHeight => 17,
-        Refusal::Ntv2File => 18,
-        Refusal::Ntv2Shift => 19,
-        Refusal::DenseAlignment => 20,
-        Refusal::DenseBorder => 21,
-        Refusal::BorderCorrection => 22,
+    r as i64
+}
+
+// What a call hands out of what it did: 0 where it is done, else the refusal's number.
+pub fn status(done: Result<(), Refusal>) -> i64
+    ensures { result ≡ status_of (outcome_of done) }
+{
+    match done {
+        Ok(()) => 0,
+        Err(r) => refusal_number(r),
     }
 }

@@ -1,6 +1,6 @@
 -- Kind 2's trips from anywhere: every fix within question 7's limits goes out and back, without a margin. Its answer stays within these
 -- limits, because on a bound at 90 or 180 degrees, and past it, the correction is zero.
-use Rattle.std.specs.Prelude.{Bool, true, false, List, ◌≡◌, refl, ℕ, ◌≤◌, pos, nat_abs, ◌+ℤ◌, ◌-ℤ◌}
+use Rattle.std.specs.Prelude.{Bool, Some, None, true, false, List, ◌≡◌, refl, ℕ, ◌≤◌, pos, nat_abs, ◌+ℤ◌, ◌-ℤ◌}
 use Rattle.std.proofs.Common.{inl, inr, ap, ◌∙◌, arith}
 use Rattle.std.proofs.Math.IntN.{ℤ, -ℤ-+ℤ_cancel}
 use Rattle.rules.specs.declared.Layout.{Layout}
@@ -10,7 +10,7 @@ use Rattle.rules.specs.Units.{out_height_limit, back_height_limit, stop_distance
 use Rattle.rules.specs.Answers.{values}
 use Rattle.rules.specs.Image.{Grid, grid_of}
 use Rattle.rules.specs.Limits.{PointWithin, Open}
-use Rattle.rules.specs.Lookup.{Height, some, none, inside, quasi_geoid_at}
+use Rattle.rules.specs.Lookup.{Height, inside, quasi_geoid_at}
 use Rattle.rules.specs.Ways.{Source, unbounded_source, question7, plus, position, Accepted, answer_at}
 use Rattle.rules.specs.Promise.{OutAndBackAnywhere}
 use Rattle.rules.proofs.Limits.{fix_within}
@@ -95,6 +95,6 @@ module _ {size : ℕ} (b : List ℕ) (l : Layout) (o : Open size l) (c : Passes 
             let z = quasi_geoid_at grid bessel in
             let heights = unbounded_heights b l o c in
             let m = height_goes_back h z (fix_within out_height_limit p h t).1 (heights.value.limit bessel i) in
-            trip (some z) (h -ℤ z) (h -ℤ z +ℤ z) 0 (heights.answered bessel i) refl refl m (λ e. -ℤ-+ℤ_cancel h z)
+            trip (Some z) (h -ℤ z) (h -ℤ z +ℤ z) 0 (heights.answered bessel i) refl refl m (λ e. -ℤ-+ℤ_cancel h z)
         by false i =
-            trip none (pos 0) (pos 0) no_height_number (no_height b l o c bessel i) refl refl (omega arith) (λ e. absurd (omega arith))
+            trip None (pos 0) (pos 0) no_height_number (no_height b l o c bessel i) refl refl (omega arith) (λ e. absurd (omega arith))

@@ -1,7 +1,7 @@
 -- A grid that passes the check is a steady source: its nodes are all within question 9's limits, so every lookup in the bounds is answered,
 -- and its steps are within question 12's, so every value changes slowly. The corrections with a dense grid are in Nested.antt, the answers
 -- at any point in Unbounded.antt.
-use Rattle.std.specs.Prelude.{Bool, List, ◌≡◌, ℕ, ◌+◌, ◌-◌, ◌≤◌, ◌<◌, ℤ, ◌-ℤ◌}
+use Rattle.std.specs.Prelude.{Bool, Some, List, ◌≡◌, ℕ, ◌+◌, ◌-◌, ◌≤◌, ◌<◌, ℤ, ◌-ℤ◌}
 use Rattle.std.proofs.Math.Bool.{true, false}
 use Rattle.std.proofs.Math.Path.{refl}
 use Rattle.std.proofs.Common.{subst, le_trans, arith, leb-true}
@@ -17,7 +17,7 @@ use Rattle.rules.specs.Answers.{values}
 use Rattle.rules.specs.Image.{Grid, grid_of, rows, columns}
 use Rattle.rules.specs.Limits.{GeometryPasses, Open}
 use Rattle.rules.specs.Bilinear.{corners_for, value_at}
-use Rattle.rules.specs.Lookup.{some, inside, square_passes, question9, corrections_pass, heights_pass, corrections_at, quasi_geoid_at}
+use Rattle.rules.specs.Lookup.{inside, square_passes, question9, corrections_pass, heights_pass, corrections_at, quasi_geoid_at}
 use Rattle.rules.specs.Lookup.{correction_lookup, height_lookup, correction_grid_lookup, height_grid_lookup}
 use Rattle.rules.specs.Ways.{bounded_source}
 use Rattle.rules.specs.Check.{largest, all_within, all_pass, step_north, step_east, steps_of, slope_passes, question12, findings_of}
@@ -133,11 +133,11 @@ module _ {size : ℕ} (b : List ℕ) (l : Layout) (o : Open size l) (c : Passes 
       and_both (latitudes_pass geometry c.corrections q)
       (and_both (longitudes_pass geometry c.corrections q) (subst at (o.height_geometry nodes) (heights_pass_lem q)))
 
-  height_answered : (q : Point) → inside grid.heights q ≡ true → (bounded_source grid).height q ≡ values (some (quasi_geoid_at grid q))
+  height_answered : (q : Point) → inside grid.heights q ≡ true → (bounded_source grid).height q ≡ values (Some (quasi_geoid_at grid q))
   unfolding height_lookup height_grid_lookup heights_pass
   height_answered q i = by l.separate refl
     where
-      by : (separate : Bool) → l.separate ≡ separate → (bounded_source grid).height q ≡ values (some (quasi_geoid_at grid q))
+      by : (separate : Bool) → l.separate ≡ separate → (bounded_source grid).height q ≡ values (Some (quasi_geoid_at grid q))
       by false nodes = rw (nodes_pass nodes q, nodes)
       by true apart = rw (i, heights_pass_lem q, apart)
 

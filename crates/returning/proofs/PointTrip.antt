@@ -1,5 +1,5 @@
 -- Back and out, without a dense grid: what lies near, and the trip of a Bessel point whose way back and out settles near it.
-use Rattle.std.specs.Prelude.{Bool, true, List, ◌≡◌, ℕ, ◌≤◌, nat_abs, ◌+ℤ◌, ◌-ℤ◌}
+use Rattle.std.specs.Prelude.{Bool, Some, true, List, ◌≡◌, ℕ, ◌≤◌, nat_abs, ◌+ℤ◌, ◌-ℤ◌}
 use Rattle.std.proofs.Common.{◌∙◌, arith}
 use Rattle.std.proofs.Math.IntN.{ℤ}
 use Rattle.integers.specs.Distance.{abs_add}
@@ -9,7 +9,6 @@ use Rattle.rules.specs.declared.Way.TheVariants as way
 use Rattle.rules.specs.Units.{out_height_limit, stop_distance}
 use Rattle.rules.specs.Units.{point_height_limit}
 use Rattle.rules.specs.Limits.{PointWithin}
-use Rattle.rules.specs.Lookup.{some}
 use Rattle.rules.specs.Ways.{Source, plus, position}
 use Rattle.rules.specs.Promise.{BackAndOut}
 use Rattle.returning.proofs.Points.{close_within, within_close}
@@ -43,7 +42,7 @@ module _ {s : Source} {at : Point → Correction} {heightInside : Point → Bool
         record {
           etrs89 = position p h 1;
           returned = position r (h -ℤ quasiGeoid r) v.way.end.count;
-          answered = same way.Back q H ∙ back_values t.angles q H (some z) i x (t.heights.answered q j) (omega arith);
+          answered = same way.Back q H ∙ back_values t.angles q H (Some z) i x (t.heights.answered q j) (omega arith);
           out_again = same way.Out p h ∙ out_values t.angles v.way h _ v.in_bounds y (t.heights.answered r k) m;
           angles = close_within v.angles;
           heights = height_returns H z (quasiGeoid r) (t.heights.value.change r q 2 k j v.angles);

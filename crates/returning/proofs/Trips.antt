@@ -1,6 +1,6 @@
 -- Out and back, and back and out, over any source whose corrections and heights are limited and change slowly: the angles' half
 -- (Angles.antt), and the heights' half, which asks for a height only at the Bessel points of a trip.
-use Rattle.std.specs.Prelude.{Bool, true, false, List, ◌≡◌, ℕ, ◌≤◌, nat_abs, ◌+ℤ◌, ◌-ℤ◌}
+use Rattle.std.specs.Prelude.{Bool, Some, true, false, List, ◌≡◌, ℕ, ◌≤◌, nat_abs, ◌+ℤ◌, ◌-ℤ◌}
 use Rattle.std.proofs.Common.{sym, ◌∙◌, arith, le-leb}
 use Rattle.std.proofs.Math.Path.{ap}
 use Rattle.std.proofs.Math.IntN.{ℤ, -ℤ-+ℤ_cancel}
@@ -15,7 +15,7 @@ use Rattle.rules.specs.Units.{quasi_geoid_limit, out_height_limit, back_height_l
 use Rattle.rules.specs.Units.{fix_margin}
 use Rattle.rules.specs.Answers.{values}
 use Rattle.rules.specs.Limits.{PointWithin}
-use Rattle.rules.specs.Lookup.{Height, some}
+use Rattle.rules.specs.Lookup.{Height}
 use Rattle.rules.specs.Ways.{Source, question7, plus, position, Accepted, answer_at, back, out, iterate, convert_over}
 use Rattle.rules.specs.Promise.{point_of, return_distance, OutAndBack}
 use Rattle.rules.proofs.Accepted.{answer_point}
@@ -89,8 +89,8 @@ module _ {s : Source} {at : Point → Correction} {rule : StopRule} {heightInsid
         record {
           outward = position q H v.end.count;
           returned = position (plus q (at q)) (H +ℤ z) 1;
-          answered = same way.Out p h ∙ out_values t.angles v h (some z) i x e m;
-          back_again = same way.Back q H ∙ back_values t.angles q H (some z) w.in_bounds y e k;
+          answered = same way.Out p h ∙ out_values t.angles v h (Some z) i x e m;
+          back_again = same way.Back q H ∙ back_values t.angles q H (Some z) w.in_bounds y e k;
           returns = record {
             at_least_one = v.at_least_one;
             at_most_five = v.at_most;

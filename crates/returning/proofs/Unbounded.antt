@@ -1,6 +1,6 @@
 -- An image of kind 2 that passes the check: at every point its corrections are answered and steady, zero outside their bounds; and on the
 -- height grid a height is answered, off it that there is none.
-use Rattle.std.specs.Prelude.{Bool, List, ◌≡◌, ℕ}
+use Rattle.std.specs.Prelude.{Bool, None, List, ◌≡◌, ℕ}
 use Rattle.std.proofs.Math.Bool.{true, false}
 use Rattle.std.proofs.Math.Path.{refl}
 use Rattle.integers.specs.Booleans.{and_left, and_right}
@@ -9,7 +9,7 @@ use Rattle.rules.specs.declared.Point.{Point}
 use Rattle.rules.specs.Answers.{values}
 use Rattle.rules.specs.Image.{Grid, grid_of}
 use Rattle.rules.specs.Limits.{GeometryPasses, Open}
-use Rattle.rules.specs.Lookup.{none, inside, heights_pass, corrections_or_zero, height_or_none, quasi_geoid_at}
+use Rattle.rules.specs.Lookup.{inside, heights_pass, corrections_or_zero, height_or_none, quasi_geoid_at}
 use Rattle.rules.specs.Ways.{unbounded_source}
 use Rattle.rules.specs.Check.{border_zero, question22}
 use Rattle.returning.specs.Angles.{SteadyAngles}
@@ -39,7 +39,7 @@ module _ {size : ℕ} (b : List ℕ) (l : Layout) (o : Open size l) (c : Passes 
   unfolding height_or_none heights_pass
   unbounded_heights = record { answered = λ q i. rw (i, heights_pass_lem b l o c q); value = height_value b l o c }
 
-  pub no_height : (q : Point) → inside grid.heights q ≡ false → (unbounded_source grid).height q ≡ values none
+  pub no_height : (q : Point) → inside grid.heights q ≡ false → (unbounded_source grid).height q ≡ values None
   unfolding height_or_none
   no_height q i = rw i
 

@@ -1,6 +1,6 @@
 -- Out and back, and back and out, over any source whose corrections and heights are limited and change slowly: the angles' half
 -- (Angles.antt), and the heights' half, which asks for a height only at the Bessel points of a trip.
-use Rattle.std.specs.Prelude.{Bool, true, List, ◌≡◌, ℕ}
+use Rattle.std.specs.Prelude.{Bool, Some, true, List, ◌≡◌, ℕ}
 use Rattle.std.proofs.Math.IntN.{ℤ}
 use Rattle.rules.specs.declared.Point.{Point}
 use Rattle.rules.specs.declared.Correction.{Correction}
@@ -8,7 +8,6 @@ use Rattle.rules.specs.declared.Way.{Way}
 use Rattle.rules.specs.Units.{quasi_geoid_limit}
 use Rattle.rules.specs.Answers.{values}
 use Rattle.rules.specs.Limits.{PointWithin}
-use Rattle.rules.specs.Lookup.{some}
 use Rattle.rules.specs.Ways.{Source, Accepted, convert_over, convert, way_back}
 use Rattle.rules.specs.Promise.{AnglesWithin, point_of}
 use Rattle.returning.specs.Points.{Close, Room, SteadyValue}
@@ -18,7 +17,7 @@ use Rattle.returning.specs.Angles.{StopRule, SteadyAngles}
 -- What the heights' half asks of a source: in the heights' bounds, `heightInside`, a height is answered, and it is a steady value, within
 -- question 9's limit and with a change of at most one in a hundred, rounded up.
 pub record SteadyHeights (s : Source) (heightInside : Point → Bool) (quasiGeoid : Point → ℤ) : Type 0 where
-  pub answered : (q : Point) → heightInside q ≡ true → s.height q ≡ values (some (quasiGeoid q))
+  pub answered : (q : Point) → heightInside q ≡ true → s.height q ≡ values (Some (quasiGeoid q))
   pub value : SteadyValue heightInside hundredth quasi_geoid_limit quasiGeoid
 
 -- Both halves. The bounds of the corrections are the source's own.

@@ -2,49 +2,34 @@
 // both through an opened image, and then the whole trip: grid check, out and back.
 #![tactic(auto)]
 
-use decimal::{Decimal, read_decimal};
+use decimal::read_decimal;
 use numbers::distance;
-use opened::{Fix, quasi_geoid_height, way_out};
-use rules::{Answer, HeightLookup, NO_HEIGHT, Point, Position, TripAnswer};
+use opened::{quasi_geoid_height, way_out};
+use rules::{Converted, Fix, NO_HEIGHT, Point, Position, Returned};
 use std::env::FillError;
 use std::io;
 use std::rt::Env;
 use streams::{print_field, print_refusal, read_image};
 use trip::round_trip;
 
-// What the program was called with.
-#[derive(Drop)]
-enum Arguments {
-    Fix(Fix),
-    Unreadable,
-}
-
 fn main(rt: HostRuntime) -> io::Result<()> {
     match read_arguments(&rt) {
-        Arguments::Fix(f) => answer_fix(&rt, f),
-        Arguments::Unreadable => println!(rt; "usage: roundtrip LATITUDE LONGITUDE HEIGHT < IMAGE"),
+        Some(fix) => answer_fix(&rt, fix),
+        None => println!(rt; "usage: roundtrip LATITUDE LONGITUDE HEIGHT < IMAGE"),
     }
 }
 
 // The fix of the three arguments behind the program's name.
-fn read_arguments(rt: &impl Env) -> Arguments {
+fn read_arguments(rt: &impl Env) -> Option<Fix> {
     if has_argument(rt, 4) {
-        return Arguments::Unreadable;
+        return None;
     }
-    let Decimal::Number(latitude) = read_argument(rt, 1) else {
-        return Arguments::Unreadable;
-    };
-    let Decimal::Number(longitude) = read_argument(rt, 2) else {
-        return Arguments::Unreadable;
-    };
-    let Decimal::Number(height) = read_argument(rt, 3) else {
-        return Arguments::Unreadable;
-    };
     let point = Point {
-        latitude,
-        longitude,
+        latitude: read_argument(rt, 1)?,
+        longitude: read_argument(rt, 2)?,
     };
-    Arguments::Fix(Fix { point, height })
+    let height = read_argument(rt, 3)?;
+    Some(Fix { point, height })
 }
 
 // Is there an argument at this place? An empty one counts.
@@ -53,52 +38,40 @@ fn has_argument(rt: &impl Env, i: usize) -> bool {
     !matches!(rt.arg(i, &mut text), Err(FillError::NotPresent))
 }
 
-// One argument. One that is missing, or longer than the buffer's 4,096 bytes, is unreadable.
-fn read_argument(rt: &impl Env, i: usize) -> Decimal {
+// The number of one argument. One that is missing, or longer than the buffer's 4,096 bytes, has none.
+fn read_argument(rt: &impl Env, i: usize) -> Option<i64> {
     let mut text = [0u8; 4096];
-    match rt.arg(i, &mut text) {
-        Ok(size) => read_decimal(&text[..size]),
-        Err(_) => Decimal::Unreadable,
-    }
+    let size = rt.arg(i, &mut text).ok()?;
+    read_decimal(&text[..size])
 }
 
 // All answers for the fix, over the image on standard input.
-fn answer_fix(rt: &(impl Input + Print), f: Fix) -> io::Result<()> {
+fn answer_fix(rt: &(impl Input + Print), fix: Fix) -> io::Result<()> {
     let mut image = [0u8; 65536];
-    let input = read_image(&mut rt.reader(), &mut image);
-    if input.too_long {
+    let Ok(size) = read_image(&mut rt.reader(), &mut image) else {
         return println!(rt; "too long");
-    }
-    let size = input.size;
-    report(rt, &image[..size], f.point, f.height)
-}
-
-fn report(rt: &impl Print, image: &[u8], p: Point, height: i64) -> io::Result<()> {
-    report_out(rt, image, p, height)?;
-    report_trip(rt, image, p, height)
+    };
+    report_out(rt, &image[..size], fix)?;
+    report_trip(rt, &image[..size], fix)
 }
 
 // `out` with the point, the height, the count and without a height 100, and the line of the quasi-geoid height; or `out refused` and the
 // number.
-fn report_out(rt: &impl Print, image: &[u8], p: Point, height: i64) -> io::Result<()> {
-    match way_out(image, p, height) {
-        Answer::Values(a) => {
-            print!(rt; "out")?;
+fn report_out(rt: &impl Print, image: &[u8], fix: Fix) -> io::Result<()> {
+    print!(rt; "out")?;
+    match way_out(image, fix) {
+        Ok(Converted::WithHeight(a)) => {
             print_position(rt, a)?;
-            print_field(rt, a.count)?;
-            println!(rt)?;
+            println!(rt; " {}", a.count)?;
             report_quasi_geoid(rt, image, a)
         }
-        Answer::WithoutHeight(a) => {
-            print!(rt; "out")?;
+        Ok(Converted::WithoutHeight(a)) => {
             print_position(rt, a)?;
-            print_field(rt, a.count)?;
-            print_field(rt, NO_HEIGHT)?;
-            println!(rt)?;
+            println!(rt; " {} {NO_HEIGHT}", a.count)?;
             report_quasi_geoid(rt, image, a)
         }
-        Answer::Refused(r) => {
-            print!(rt; "out ")?;
+        Err(r) => {
+            print!(rt; " ")?;
             print_refusal(rt, r)
         }
     }
@@ -110,37 +83,32 @@ fn report_quasi_geoid(rt: &impl Print, image: &[u8], a: Position) -> io::Result<
         latitude: a.latitude,
         longitude: a.longitude,
     };
+    print!(rt; "quasi-geoid ")?;
     match quasi_geoid_height(image, q) {
-        HeightLookup::Height(z) => println!(rt; "quasi-geoid {z}"),
-        HeightLookup::NoHeight => println!(rt; "quasi-geoid none"),
-        HeightLookup::Refused(r) => {
-            print!(rt; "quasi-geoid ")?;
-            print_refusal(rt, r)
-        }
+        Ok(Some(z)) => println!(rt; "{z}"),
+        Ok(None) => println!(rt; "none"),
+        Err(r) => print_refusal(rt, r),
     }
 }
 
 // `back` and what returned, and `distance` and how far that is from the fix, in height too where both answers have one; or `trip refused`
 // and the number.
-fn report_trip(rt: &impl Print, image: &[u8], p: Point, height: i64) -> io::Result<()> {
-    match round_trip(image, p, height) {
-        TripAnswer::Returned(t) => {
-            let returned = t.returned;
+fn report_trip(rt: &impl Print, image: &[u8], fix: Fix) -> io::Result<()> {
+    match round_trip(image, fix) {
+        Ok(Returned::WithHeights(t)) => {
             print!(rt; "back")?;
-            print_position(rt, returned)?;
-            print_distances(rt, returned, p)?;
-            print_field(rt, distance(returned.height, height))?;
-            println!(rt)
+            print_position(rt, t.returned)?;
+            print_distances(rt, t.returned, fix.point)?;
+            println!(rt; " {}", distance(t.returned.height, fix.height))
         }
-        TripAnswer::WithoutHeights(t) => {
-            let returned = t.returned;
+        Ok(Returned::WithoutHeights(t)) => {
             print!(rt; "back")?;
-            print_position(rt, returned)?;
+            print_position(rt, t.returned)?;
             print_field(rt, NO_HEIGHT)?;
-            print_distances(rt, returned, p)?;
+            print_distances(rt, t.returned, fix.point)?;
             println!(rt)
         }
-        TripAnswer::Refused(r) => {
+        Err(r) => {
             print!(rt; "trip ")?;
             print_refusal(rt, r)
         }
@@ -156,12 +124,5 @@ fn print_distances(rt: &impl Print, returned: Position, p: Point) -> io::Result<
 
 // A position's latitude, longitude and height.
 fn print_position(rt: &impl Print, a: Position) -> io::Result<()> {
-    print_signed(rt, a.latitude)?;
-    print_signed(rt, a.longitude)?;
-    print_signed(rt, a.height)
-}
-
-// A space and a number with its sign.
-fn print_signed(rt: &impl Print, z: i64) -> io::Result<()> {
-    print!(rt; " {z}")
+    print!(rt; " {} {} {}", a.latitude, a.longitude, a.height)
 }

@@ -1,12 +1,16 @@
--- Laws of both grid files: what an axis that was read tells, and what a geometry that passes questions 3 to 5 is.
-use mathlib.Core.Bool.{Bool, true, false, cond, ◌&&◌}
+-- Laws of both grid files: what a value that is kept tells, and what a geometry that passes questions 3 to 5 is.
+use Rattle.std.specs.Prelude.{Some, None, is_some}
+use Rattle.std.specs.Bool.{then_some}
+use Rattle.std.proofs.Common.{ap, sym}
+use Rattle.std.proofs.lemmas.Bool.{false≢true}
+use Rattle.std.proofs.lemmas.Option.{same_Some}
+use mathlib.Core.Bool.{Bool, true, false, ◌&&◌}
 use mathlib.Core.Path.{◌≡◌, refl}
 use Prim.Native.Nat.{ℕ, ◌≤◌}
 use native.Mathlib.Omega.{arith}
 use lib.IntN.{ℤ, pos, negsuc, nat_abs}
 use Rattle.integers.specs.Booleans.{all_three}
 use Rattle.rules.specs.declared.Axis.{Axis}
-use Rattle.rules.specs.declared.AxisRead.TheVariants as axis
 use Rattle.rules.specs.declared.Geometry.{Geometry}
 use Rattle.rules.specs.declared.FileGrids.{FileGrids}
 use Rattle.rules.specs.Questions.{question3, question4, question5, questions_3_to_5}
@@ -17,14 +21,14 @@ use Rattle.rules.specs.Files.{natural}
 use Rattle.rules.specs.Ntv2.{no_axis, no_geometry}
 use Rattle.rules.proofs.Opening.{geometry_passes}
 
--- What an axis that was read tells.
-pub axis_fit : (t : Bool) (a c : Axis) → cond t (axis.Fit a) axis.Unfit ≡ axis.Fit c → (t ≡ true) × (a ≡ c)
-axis_fit true a c e = (refl, cc)
-axis_fit false a c e = let n : ◌≡◌ {A = ℕ} 0 1 = cc in absurd (omega arith)
+-- A value that is kept where a test is true tells of both.
+pub kept : {A : Type 0} (t : Bool) (a c : A) → then_some t a ≡ Some c → (t ≡ true) × (a ≡ c)
+kept true a c e = (refl, same_Some a c e)
+kept false a c e = absurd (false≢true (ap is_some e))
 
-pub axis_unfit : (t : Bool) (a : Axis) → cond t (axis.Fit a) axis.Unfit ≡ axis.Unfit → t ≡ false
-axis_unfit true a e = let n : ◌≡◌ {A = ℕ} 0 1 = cc in absurd (omega arith)
-axis_unfit false a e = refl
+pub not_kept : {A : Type 0} (t : Bool) (a : A) → then_some t a ≡ None → t ≡ false
+not_kept true a e = absurd (false≢true (sym (ap is_some e)))
+not_kept false a e = refl
 
 -- A number above zero is the number itself.
 pub natural_most : (z : ℤ) (limit : ℕ) → 1 ≤ natural z → natural z ≤ limit → nat_abs z ≤ limit

@@ -1,7 +1,5 @@
--- Document 01, "Questions in order": an answer is its values or a question's number alone. What an enum of the code says in these terms
--- stands with the rule that it answers: opened_of (Questions), height_lookup_of (Lookup), answer_of (Ways), checked_of (Check), reading_of
--- and writing_of (Notation), trip_of (Trip), file_answer_of and grids_answer_of (Files).
-use Rattle.std.specs.Prelude.{Bool, true, false, ℕ, ℤ, pos}
+-- Document 01, "Questions in order": an answer is its values or a question's number alone, and what the code's results say in these terms.
+use Rattle.std.specs.Prelude.{Bool, true, false, Result, Ok, Err, ℕ, ℤ, pos}
 use Rattle.rules.specs.declared.Refusal.{Refusal}
 use Rattle.rules.specs.declared.Refusal.TheVariants.{ImageLength, Edition, NodeCount, Spacing, GridBounds, NodeBytes}
 use Rattle.rules.specs.declared.Refusal.TheVariants.{FixLimits, OutsideBounds, NodeLimits, IterateOutside, NotSettled}
@@ -23,6 +21,11 @@ ask false n next = number n
 abbrev pub and_then : {A B : Type 0} → Outcome A → (A → Outcome B) → Outcome B
 and_then (values a) next = next a
 and_then (number n) next = number n
+
+-- The same values in other terms; a number stays.
+abbrev pub mapped : {A B : Type 0} → (A → B) → Outcome A → Outcome B
+mapped f (values a) = values (f a)
+mapped f (number n) = number n
 
 -- The number of each refusal.
 abbrev pub number_of : Refusal → ℕ
@@ -48,6 +51,11 @@ number_of Ntv2Shift = 19
 number_of DenseAlignment = 20
 number_of DenseBorder = 21
 number_of BorderCorrection = 22
+
+-- A result of the code, in these terms.
+abbrev pub outcome_of : {A : Type 0} → Result A Refusal → Outcome A
+outcome_of (Ok a) = values a
+outcome_of (Err r) = number (number_of r)
 
 -- What a call gives: 0 with values, else the number.
 abbrev pub status_of : {A : Type 0} → Outcome A → ℤ

@@ -4,10 +4,8 @@ use Rattle.std.specs.Prelude.{Bool, true, cond, ◌&&◌, List, [], ◌∷◌, �
 use Rattle.rules.specs.declared.Geometry.{Geometry}
 use Rattle.rules.specs.declared.Steps.{Steps}
 use Rattle.rules.specs.declared.Findings.{Findings}
-use Rattle.rules.specs.declared.Checked.{Checked}
-use Rattle.rules.specs.declared.Checked.TheVariants as checked
 use Rattle.rules.specs.Units.{within, correction_limit, quasi_geoid_limit}
-use Rattle.rules.specs.Answers.{Outcome, values, number, ask, and_then, number_of}
+use Rattle.rules.specs.Answers.{Outcome, values, number, ask, and_then}
 use Rattle.rules.specs.Image.{Grid, grid_of, rows, columns}
 use Rattle.rules.specs.Bilinear.{exact_sum, area}
 use Rattle.rules.specs.Dense.{node_point}
@@ -132,11 +130,6 @@ check g =
 -- The grid check of an image: questions 1 to 6 first.
 unfoldable pub grid_check : List ℕ → Outcome Findings
 grid_check b = and_then (opening b) (λ l. check (grid_of b l))
-
--- The code's answer, in these terms.
-abbrev pub checked_of : Checked → Outcome Findings
-checked_of (checked.Passed f) = values f
-checked_of (checked.Refused r) = number (number_of r)
 
 -- What the grid check over C leaves in its lent array: A and B of latitude correction, longitude correction and height, or with a number
 -- what was there before.

@@ -2,12 +2,8 @@
 -- are written into a lent buffer, and what a conversion hands back.
 use Rattle.std.specs.Prelude.{List, [], ◌∷◌, ◌++◌, ℕ, zero, suc, ◌-◌, ◌/◌, ◌%◌, ℤ, pos, negsuc}
 use Rattle.rules.specs.declared.Geometry.{Geometry}
-use Rattle.rules.specs.declared.FileAnswer.{FileAnswer}
-use Rattle.rules.specs.declared.FileAnswer.TheVariants as answer
 use Rattle.rules.specs.declared.FileGrids.{FileGrids}
-use Rattle.rules.specs.declared.FileGridsAnswer.{FileGridsAnswer}
-use Rattle.rules.specs.declared.FileGridsAnswer.TheVariants as gridsAnswer
-use Rattle.rules.specs.Answers.{Outcome, values, number, number_of}
+use Rattle.rules.specs.Answers.{Outcome, values, number}
 use Rattle.rules.specs.Image.{south, west, rows, columns}
 
 -- A spacing, a count or a difference of bounds as a natural number. A negative one becomes 0, which questions 3 and 4 refuse alike.
@@ -27,15 +23,6 @@ bytes_of z = let n = bits_of z in (n % 256) ∷ (n / 256 % 256) ∷ (n / 65536 %
 unfoldable pub in_sequence : (ℕ → List ℕ) → ℕ → List ℕ
 in_sequence part zero = []
 in_sequence part (suc n) = in_sequence part n ++ part n
-
--- The code's answers, in these terms.
-abbrev pub file_answer_of : FileAnswer → Outcome Geometry
-file_answer_of (answer.Converted g) = values g
-file_answer_of (answer.Refused r) = number (number_of r)
-
-abbrev pub grids_answer_of : FileGridsAnswer → Outcome FileGrids
-grids_answer_of (gridsAnswer.Converted g) = values g
-grids_answer_of (gridsAnswer.Refused r) = number (number_of r)
 
 -- What a conversion over C leaves in its lent array: the geometry in the trailer's order, of an NTv2 file that of the first grid and then
 -- that of the dense one; or with a number what was there before.

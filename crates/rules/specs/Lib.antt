@@ -16,6 +16,7 @@
 --     ◌+◌ ◌-◌ ◌*◌ ◌/◌ ◌%◌ ◌^◌  on ℕ: a - b is 0 where b is above a; a / b is rounded down, a % b is the remainder, a ^ b the power; `min`
 --                              and `max`
 --     ◌+ℤ◌ ◌-ℤ◌ ◌*ℤ◌ neg_ℤ     on ℤ: sum, difference, product, negative; `nat_abs`, the absolute value, in ℕ
+--     Some a, None; Ok a, Err r the value a, or none; the value a, or the refusal r
 --     leb ltb eqb, le_z lt_z   the answer, true or false, to: at most, below, equal, on ℕ; at most, below, on ℤ
 --     ◌&&◌ ◌||◌ cond           and, or; `cond t a b` is a where t is true, else b
 --     [], x ∷ l, l ++ k        lists: none, x before l, l before k; `length`; `get_or l i d`, element i, counted from 0, or d past the end

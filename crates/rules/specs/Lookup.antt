@@ -1,24 +1,21 @@
 -- Document 01, "Questions in order": the bounds of questions 8 and 10, question 9, and the lookups of the values at a point in the bounds;
 -- and notes 1, 5 and 6 of document 02: question 15, the lookups on two grids, which of two grids a point's corrections are taken from, and
 -- the lookups at any point.
-use Rattle.std.specs.Prelude.{Bool, true, false, cond, ◌&&◌, ℕ, ℤ, pos}
+use Rattle.std.specs.Prelude.{Bool, true, false, cond, ◌&&◌, Option, Some, None, ℕ, ℤ, pos}
 use Rattle.std.specs.Int.Signed.{le_z}
 use Rattle.rules.specs.declared.Axis.{Axis}
 use Rattle.rules.specs.declared.Geometry.{Geometry}
 use Rattle.rules.specs.declared.Point.{Point}
 use Rattle.rules.specs.declared.Square.{Square}
 use Rattle.rules.specs.declared.Correction.{Correction}
-use Rattle.rules.specs.declared.HeightLookup.{HeightLookup}
-use Rattle.rules.specs.declared.HeightLookup.TheVariants as found
 use Rattle.rules.specs.Units.{within, correction_limit, quasi_geoid_limit}
-use Rattle.rules.specs.Answers.{Outcome, values, number, ask, number_of}
+use Rattle.rules.specs.Answers.{Outcome, values, ask}
 use Rattle.rules.specs.Image.{Grid, far_bound}
 use Rattle.rules.specs.Bilinear.{cell_for, corners, corners_for, value_at}
 
 -- A quasi-geoid height, or that there is none.
-pub data Height : Type 0 where
-  some : ℤ → Height
-  none : Height
+abbrev pub Height : Type 0
+Height = Option ℤ
 
 -- An angle from an axis's start to its far bound, both included.
 unfoldable pub on_axis : Axis → ℤ → Bool
@@ -54,7 +51,7 @@ unfoldable pub correction_lookup : Grid → Point → Outcome Correction
 correction_lookup g p = ask (question9 g p) 9 (values (corrections_at g p))
 
 unfoldable pub height_lookup : Grid → Point → Outcome Height
-height_lookup g p = ask (question9 g p) 9 (values (some (quasi_geoid_at g p)))
+height_lookup g p = ask (question9 g p) 9 (values (Some (quasi_geoid_at g p)))
 
 -- Edition 2: 9 asks the point's cell on the correction grid for corrections,
 unfoldable pub corrections_pass : Grid → Point → Bool
@@ -93,7 +90,7 @@ grid_for g p = cond (g.nested && inside g.dense p) (dense_grid g) g
 
 -- 15. Is the Bessel point on the height grid, its bounds included? Then question 9, then the height.
 unfoldable pub height_grid_lookup : Grid → Point → Outcome Height
-height_grid_lookup g q = ask (inside g.heights q) 15 (ask (heights_pass g q) 9 (values (some (quasi_geoid_at g q))))
+height_grid_lookup g q = ask (inside g.heights q) 15 (ask (heights_pass g q) 9 (values (Some (quasi_geoid_at g q))))
 
 -- Kind 2, at any point: outside the bounds of the corrections both are zero, and no cell is used,
 abbrev pub no_correction : Correction
@@ -104,10 +101,4 @@ corrections_or_zero g p = cond (inside g.corrections p) (correction_grid_lookup 
 
 -- and off the height grid there is no height.
 unfoldable pub height_or_none : Grid → Point → Outcome Height
-height_or_none g q = cond (inside g.heights q) (ask (heights_pass g q) 9 (values (some (quasi_geoid_at g q)))) (values none)
-
--- The code's answer, in these terms.
-abbrev pub height_lookup_of : HeightLookup → Outcome Height
-height_lookup_of (found.Height z) = values (some z)
-height_lookup_of found.NoHeight = values none
-height_lookup_of (found.Refused r) = number (number_of r)
+height_or_none g q = cond (inside g.heights q) (ask (heights_pass g q) 9 (values (Some (quasi_geoid_at g q)))) (values None)

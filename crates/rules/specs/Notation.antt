@@ -3,12 +3,8 @@
 use Rattle.std.specs.Prelude.{Bool, cond, ◌&&◌, ◌||◌, List, [], ◌∷◌, ℕ, ◌+◌, ◌*◌, ◌/◌, ◌%◌, leb, ltb, eqb, ℤ, pos, neg_ℤ, nat_abs}
 use Rattle.std.specs.Int.Signed.{lt_z}
 use Rattle.rules.specs.declared.Notation.{Notation}
-use Rattle.rules.specs.declared.Reading.{Reading}
-use Rattle.rules.specs.declared.Reading.TheVariants as reading
-use Rattle.rules.specs.declared.Writing.{Writing}
-use Rattle.rules.specs.declared.Writing.TheVariants as writing
 use Rattle.rules.specs.Units.{degrees, within}
-use Rattle.rules.specs.Answers.{Outcome, values, number, ask, number_of}
+use Rattle.rules.specs.Answers.{Outcome, values, number, ask}
 
 -- A degree and a minute in hundred-thousandths of a second.
 abbrev pub per_degree : ℕ
@@ -54,11 +50,6 @@ read_notation longitude n =
 abbrev pub read_parts : Bool → (degrees minutes fraction letter : ℕ) → Outcome ℤ
 read_parts longitude d m f l = read_notation longitude (record { degrees = d; minutes = m; fraction = f; letter = l })
 
--- The code's answer, in these terms.
-abbrev pub reading_of : Reading → Outcome ℤ
-reading_of (reading.Angle z) = values z
-reading_of (reading.Refused r) = number (number_of r)
-
 -- The total that is written of an angle: (18 × |nd| + 25) / 50, rounded down.
 unfoldable pub total_written : ℤ → ℕ
 total_written z = (18 * nat_abs z + 25) / 50
@@ -76,11 +67,6 @@ unfoldable pub write_notation : Bool → ℤ → Outcome Notation
 write_notation longitude z =
     ask (within (degrees (axis_limit longitude)) z) 13
     (values (split (total_written z) (letter_written longitude z)))
-
--- The code's answer, in these terms.
-abbrev pub writing_of : Writing → Outcome Notation
-writing_of (writing.Written n) = values n
-writing_of (writing.Refused r) = number (number_of r)
 
 -- What writing over C leaves in its lent array: degrees, minutes, hundred-thousandths of a second and the letter's byte, or with a number
 -- what was there before.

@@ -7,10 +7,8 @@ use Rattle.rules.specs.declared.Trailer.{Trailer}
 use Rattle.rules.specs.declared.GridTrailer.{GridTrailer}
 use Rattle.rules.specs.declared.TwoGridTrailer.{TwoGridTrailer}
 use Rattle.rules.specs.declared.Layout.{Layout}
-use Rattle.rules.specs.declared.Opened.{Opened}
-use Rattle.rules.specs.declared.Opened.TheVariants as opened
 use Rattle.rules.specs.Units.{latitude_limit, longitude_limit, count_most, spacing_most, between, within}
-use Rattle.rules.specs.Answers.{Outcome, values, number, ask, number_of}
+use Rattle.rules.specs.Answers.{Outcome, values, ask}
 use Rattle.rules.specs.Image.{trailer_of, edition_of, two_grid_trailer_of, is_nested, is_unbounded, is_in_planes, dense_trailer_of}
 use Rattle.rules.specs.Image.{far_bound, rows, columns}
 use Rattle.rules.specs.Image.{back_of, height_back_of, correction_back_of, dense_back_of}
@@ -128,8 +126,3 @@ opening_two b =
 -- judged by its own trailer, and any other as edition 1, whose question 2 it then meets.
 unfoldable pub opening : List ℕ → Outcome Layout
 opening b = ask (question1 (length b)) 1 (cond (eqb (edition_of b) 2) (opening_two b) (judge (trailer_of b) (length b)))
-
--- The code's answer of an image's bytes, in these terms.
-abbrev pub opened_of : List ℕ → Opened → Outcome Layout
-opened_of b (opened.Separate separate) = values (layout_for b separate)
-opened_of b (opened.Refused r) = number (number_of r)

@@ -1,19 +1,20 @@
 -- Document 01, "Way back and way out", with questions 7 to 11 in their order, and 15 of document 02's note 1 where the height is looked up:
 -- after 11 going out, after 9 going back; with a dense grid note 5's lookup and stop distance; and note 6's answers at any point.
-use Rattle.std.specs.Prelude.{Bool, true, cond, ◌&&◌, List, ℕ, zero, suc, ◌+◌, ℤ, pos, ◌+ℤ◌, ◌-ℤ◌}
+use Rattle.std.specs.Prelude.{Bool, true, cond, ◌&&◌, List, Some, None, Result, ℕ, zero, suc, ◌+◌, ℤ, pos, ◌+ℤ◌, ◌-ℤ◌}
 use Rattle.rules.specs.declared.Point.{Point}
 use Rattle.rules.specs.declared.Correction.{Correction}
 use Rattle.rules.specs.declared.Position.{Position}
 use Rattle.rules.specs.declared.Way.{Way}
 use Rattle.rules.specs.declared.Way.TheVariants as way
-use Rattle.rules.specs.declared.Answer.{Answer}
-use Rattle.rules.specs.declared.Answer.TheVariants as answer
+use Rattle.rules.specs.declared.Converted.{Converted}
+use Rattle.rules.specs.declared.Converted.TheVariants as converted
+use Rattle.rules.specs.declared.Refusal.{Refusal}
 use Rattle.rules.specs.Units.{within, latitude_limit, longitude_limit, out_height_limit, back_height_limit}
 use Rattle.rules.specs.Units.{stop_distance, dense_stop_distance, most_evaluations, no_height_number}
-use Rattle.rules.specs.Answers.{Outcome, values, number, ask, and_then, number_of}
+use Rattle.rules.specs.Answers.{Outcome, values, number, ask, and_then, outcome_of, mapped}
 use Rattle.rules.specs.Image.{Grid, grid_of}
 use Rattle.rules.specs.Questions.{opening}
-use Rattle.rules.specs.Lookup.{Height, some, none, inside, correction_lookup, height_lookup, correction_grid_lookup, height_grid_lookup}
+use Rattle.rules.specs.Lookup.{Height, inside, correction_lookup, height_lookup, correction_grid_lookup, height_grid_lookup}
 use Rattle.rules.specs.Lookup.{grid_for, corrections_or_zero, height_or_none}
 
 -- What a way asks of a grid: the stop rule's distance, whether a point is in the bounds, and there its corrections and its quasi-geoid
@@ -60,8 +61,8 @@ unmeasured p n = without_height (position p (pos 0) n)
 
 -- The answer at a point, with the count n: where a quasi-geoid height is found, with the height that the way makes of it.
 abbrev pub answer_at : Point → (makes : ℤ → ℤ) → (n : ℕ) → Height → Accepted
-answer_at p makes n (some z) = measured p (makes z) n
-answer_at p makes n none = unmeasured p n
+answer_at p makes n (Some z) = measured p (makes z) n
+answer_at p makes n None = unmeasured p n
 
 -- Back, from a Bessel point q in the bounds and NAP height H: q plus the corrections at q, H plus the quasi-geoid height at q, count 1.
 unfoldable pub back : Source → Point → ℤ → Outcome Accepted
@@ -148,7 +149,9 @@ abbrev pub way_back : List ℕ → Point → ℤ → Outcome Accepted
 way_back = convert way.Back
 
 -- The code's answer, in these terms.
-abbrev pub answer_of : Answer → Outcome Accepted
-answer_of (answer.Values a) = values (with_height a)
-answer_of (answer.WithoutHeight a) = values (without_height a)
-answer_of (answer.Refused r) = number (number_of r)
+abbrev pub accepted_of : Converted → Accepted
+accepted_of (converted.WithHeight a) = with_height a
+accepted_of (converted.WithoutHeight a) = without_height a
+
+abbrev pub answer_of : Result Converted Refusal → Outcome Accepted
+answer_of r = mapped accepted_of (outcome_of r)

@@ -47,8 +47,8 @@ pub struct Geometry {
     pub longitude: Axis,
 }
 
-// The trailer of edition 1, the image's last 40 bytes, as it stands. `back` is document 01's distance from the image's end to the first
-// node.
+// The trailer of edition 1, the image's last 40 bytes, as it stands, so its edition is any number. `back` is document 01's distance from the
+// image's end to the first node.
 #[derive(Clone, Copy)]
 pub struct Trailer {
     pub geometry: Geometry,
@@ -64,7 +64,7 @@ pub struct GridTrailer {
     pub back: u64,
 }
 
-// The trailer of edition 2, the image's last 80 bytes, but for the edition.
+// The trailer of edition 2, the image's last 80 bytes, but for the edition. Its kind is any number too.
 #[derive(Clone, Copy)]
 pub struct TwoGridTrailer {
     pub corrections: GridTrailer,
@@ -85,7 +85,8 @@ pub struct Plane {
 // these stand on a separate grid, as in edition 2, or at the corrections' nodes, as in edition 1; whether points outside the bounds are
 // answered too; and whether a dense grid lies inside that of the corrections, with the plane of its latitude corrections, each followed by
 // the node's longitude correction. Where there is no dense grid, `dense` is the plane of latitude corrections once more, and nothing reads
-// it.
+// it. The flags stand beside the planes because the return promise speaks of them: `others`, `points` and `anywhere` of
+// specs/Promise.antt, `KeepsUnbounded` of specs/Trip.antt.
 #[derive(Clone, Copy)]
 pub struct Layout {
     pub separate: bool,
@@ -134,6 +135,27 @@ pub struct Square {
     pub southeast: i64,
     pub northwest: i64,
     pub northeast: i64,
+}
+
+// The spacings of a grid: document 01's P and Q.
+#[derive(Clone, Copy)]
+pub struct Spacings {
+    pub latitude: u64,
+    pub longitude: u64,
+}
+
+// Where a point lies in a cell: document 01's u and v, how far from its south and from its west side.
+#[derive(Clone, Copy)]
+pub struct PlaceInCell {
+    pub u: u64,
+    pub v: u64,
+}
+
+// A point and its height: what a conversion starts from.
+#[derive(Clone, Copy)]
+pub struct Fix {
+    pub point: Point,
+    pub height: i64,
 }
 
 // The two ways of a conversion: out, from ETRS89 to Bessel and NAP, and back.
@@ -191,9 +213,9 @@ pub struct Scale {
 }
 
 // The refusals, in the order of their numbers, 1 to 22.
-#[derive(Clone, Copy)]
+#[derive(Clone, Copy, PartialEq, Eq)]
 pub enum Refusal {
-    ImageLength,
+    ImageLength = 1,
     Edition,
     NodeCount,
     Spacing,
@@ -217,77 +239,19 @@ pub enum Refusal {
     BorderCorrection,
 }
 
-// What opening an image answers: whether its heights stand on a separate grid, which with its trailer says where its values lie; or a
-// refusal.
+// What a conversion makes of an accepted fix: a position with a height, or without one, for which 0 stands.
 #[derive(Clone, Copy)]
-pub enum Opened {
-    Separate(bool),
-    Refused(Refusal),
-}
-
-// What the lookup of the quasi-geoid height at a point answers: the height, that there is none, or a refusal.
-#[derive(Clone, Copy)]
-pub enum HeightLookup {
-    Height(i64),
-    NoHeight,
-    Refused(Refusal),
-}
-
-// What a conversion answers: values, values without a height, or a refusal. Without a height, 0 stands for it.
-#[derive(Clone, Copy)]
-pub enum Answer {
-    Values(Position),
+pub enum Converted {
+    WithHeight(Position),
     WithoutHeight(Position),
-    Refused(Refusal),
 }
 
-// What the grid check answers.
-#[derive(Clone, Copy)]
-pub enum Checked {
-    Passed(Findings),
-    Refused(Refusal),
-}
-
-// What reading a notation answers: an angle in nd.
-#[derive(Clone, Copy)]
-pub enum Reading {
-    Angle(i64),
-    Refused(Refusal),
-}
-
-// What writing an angle answers.
-#[derive(Clone, Copy)]
-pub enum Writing {
-    Written(Notation),
-    Refused(Refusal),
-}
-
-// What reading an axis of a grid file's header answers: none, where a number of it is unfit.
-#[derive(Clone, Copy)]
-pub enum AxisRead {
-    Fit(Axis),
-    Unfit,
-}
-
-// What the conversion of a grid file answers: the geometry of the nodes that it wrote.
-#[derive(Clone, Copy)]
-pub enum FileAnswer {
-    Converted(Geometry),
-    Refused(Refusal),
-}
-
-// The geometries of the grids of an NTv2 file: of its first grid, and of the dense one inside it, or zeros where it has none.
+// The geometries of the grids of an NTv2 file: of its first grid, and of the dense one inside it, or zeros where it has none: so the
+// theorem `ntv2_file` (proofs/Ntv2File.antt) has it, and the twelve numbers that C gets.
 #[derive(Clone, Copy)]
 pub struct FileGrids {
     pub coarse: Geometry,
     pub dense: Geometry,
-}
-
-// What the conversion of an NTv2 file answers: the geometries of the nodes that it wrote.
-#[derive(Clone, Copy)]
-pub enum FileGridsAnswer {
-    Converted(FileGrids),
-    Refused(Refusal),
 }
 
 // The way out's answer of a trip, and what it gives when it is taken back.
@@ -297,10 +261,9 @@ pub struct Trip {
     pub returned: Position,
 }
 
-// What a trip answers: both answers with a height, both without one, or a refusal.
+// A trip that returns: both answers with a height, or both without one.
 #[derive(Clone, Copy)]
-pub enum TripAnswer {
-    Returned(Trip),
+pub enum Returned {
+    WithHeights(Trip),
     WithoutHeights(Trip),
-    Refused(Refusal),
 }

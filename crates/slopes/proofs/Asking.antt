@@ -5,12 +5,16 @@ use mathlib.Core.Path.{◌≡◌, refl, sym, ap, ◌∙◌}
 use Prim.Native.Nat.{ℕ, ◌≤◌}
 use native.Mathlib.Omega.{arith}
 use lib.IntN.{ℤ}
+use Rattle.std.specs.Prelude.{Option, Some, None, Result}
+use Rattle.std.specs.Option.{ok_or}
 use Rattle.integers.specs.Booleans.{and_left, and_right, all_three}
 use Rattle.rules.specs.declared.Geometry.{Geometry}
 use Rattle.rules.specs.declared.Layout.{Layout}
 use Rattle.rules.specs.declared.Findings.{Findings}
 use Rattle.rules.specs.Units.{correction_limit, quasi_geoid_limit}
-use Rattle.rules.specs.Answers.{Outcome, values, number, ask, and_then}
+use Rattle.rules.specs.declared.Refusal.{Refusal}
+use Rattle.rules.specs.declared.Refusal.TheVariants.{NodeLimits}
+use Rattle.rules.specs.Answers.{Outcome, values, number, ask, and_then, outcome_of}
 use Rattle.rules.specs.Image.{Grid, grid_of}
 use Rattle.rules.specs.Limits.{Open}
 use Rattle.rules.specs.Questions.{opening}
@@ -19,6 +23,7 @@ use Rattle.rules.specs.Check.{question21, question22, where_nested, where_unboun
 use Rattle.rules.proofs.Answers.{asked, asked_no, followed, asked_then}
 use Rattle.rules.proofs.Slopes.{all_within_lem, north_most, east_most}
 use Rattle.steps.specs.declared.CorrectionSteps.{CorrectionSteps}
+use Rattle.steps.specs.Walk.{walked_of}
 use Rattle.walks.specs.Rows.{corrections_walk, grid_walk}
 use Rattle.slopes.specs.Slopes.{slopes_pass, both_slopes_pass, LayoutPasses, step_most, StepsWithin, FindingsWithin}
 
@@ -41,8 +46,13 @@ asked_both : {A : Type 0} (s t : Bool) (n : ℕ) (next : Outcome A) → ask s n 
 asked_both true t n next = refl
 asked_both false t n next = refl
 
+-- What a walk found, or the refusal of question 9, is what its outcome says.
+pub limited : {A : Type 0} (o : Option A) {r : Result A Refusal} → r ≡ ok_or o NodeLimits → outcome_of r ≡ walked_of o
+limited (Some found) e = ap outcome_of e
+limited None e = ap outcome_of e
+
 -- Where question 9 refuses a node, nothing is asked any more.
-pub none_left : (g : Grid) → grid_walk g ≡ number 9 → check g ≡ number 9
+pub none_left : (g : Grid) {n : ℕ} → grid_walk g ≡ number n → check g ≡ number n
 none_left g h = rw (check_next g, h)
 
 module _ {size : ℕ} (b : List ℕ) {l : Layout} (o : Open size l) {f : Findings} (h : grid_walk (grid_of b l) ≡ values f) where
@@ -135,9 +145,9 @@ dense_walked g s h =
       longitude_most = steps_small correction_limit _ _ (omega arith) (and_right latitude _ w.0);
     })
 
-pub dense_stopped : (g : Grid) → dense_walk g ≡ number 9 → dense_passes g ≡ false
+pub dense_stopped : (g : Grid) {n : ℕ} → dense_walk g ≡ number n → (dense_passes g ≡ false) × (n ≡ 9)
 unfolding corrections_walk dense_passes
-dense_stopped g h = (asked_no (dense_passes g) 9 _ 9 h).0
+dense_stopped g {n} h = asked_no (dense_passes g) 9 _ n h
 
 pub layout_passes : {size : ℕ} {l : Layout} → Open size l → LayoutPasses l
 layout_passes o = record { latitude = o.latitude.geometry; longitude = o.longitude.geometry; height = o.height.geometry }

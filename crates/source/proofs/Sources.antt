@@ -1,34 +1,36 @@
 -- A grid's source where the heights stand at the corrections' nodes and where they stand on a separate grid, with bounds or without, and
 -- the limit of the heights that it gives.
 use mathlib.Core.Bool.{Bool, true, false, cond, ◌&&◌, ◌||◌}
-use mathlib.Core.List.{List}
-use mathlib.Core.Path.{◌≡◌, refl, sym, ap, ◌∙◌}
+use mathlib.Core.Path.{◌≡◌, refl, sym, ap, subst, ◌∙◌}
 use Prim.Native.Nat.{ℕ, ◌≤◌}
-use native.Mathlib.Omega.{arith}
 use lib.IntN.{ℤ, nat_abs, ◌+ℤ◌}
+use Rattle.std.specs.Prelude.{Some, None}
 use Rattle.rules.specs.declared.Geometry.{Geometry}
-use Rattle.rules.specs.declared.Layout.{Layout}
 use Rattle.rules.specs.declared.Point.{Point}
 use Rattle.rules.specs.declared.Correction.{Correction}
 use Rattle.rules.specs.Units.{correction_limit, quasi_geoid_limit}
 use Rattle.rules.specs.Answers.{Outcome, values, number, ask, and_then}
-use Rattle.rules.specs.Image.{Grid, grid_of}
-use Rattle.rules.specs.Limits.{GeometryPasses, OpenAround}
+use Rattle.rules.specs.Image.{Grid}
+use Rattle.rules.specs.Limits.{GeometryPasses, OpenAround, CorrectionWithin}
 use Rattle.rules.specs.Bilinear.{corners_for, value_at}
-use Rattle.rules.specs.Lookup.{Height, some, none, inside, square_passes, question9, corrections_pass, heights_pass}
+use Rattle.rules.specs.Lookup.{Height, inside, square_passes, question9, corrections_pass, heights_pass}
 use Rattle.rules.specs.Lookup.{correction_lookup, correction_grid_lookup, height_lookup, height_grid_lookup, grid_for, height_or_none}
 use Rattle.rules.specs.Ways.{Source, plus, answer_at, back, bounded_source, unbounded_source, source_of}
 use Rattle.rules.proofs.Answers.{asked, followed}
+use Rattle.rules.proofs.Cells.{point_within}
 use Rattle.rules.proofs.Limits.{corners_within}
+use Rattle.image.specs.declared.fit.FitImage.{FitImage}
+use Rattle.image.specs.Fit.{grid_in}
 use Rattle.lookup.specs.declared.HeldCell.{HeldCell}
-use Rattle.lookup.specs.Held.{Holds, held_at, height_in, value_in, PointFound, point_found, node_lookup}
+use Rattle.lookup.specs.declared.PointValues.{PointValues}
+use Rattle.lookup.specs.Held.{Bounded, Holds, held_at, height_in, value_in, PointFound, point_found, values_found, node_lookup}
 use Rattle.grids.specs.Grids.{correction_cell, correction_cell_for, height_cell, corrections_between, height_between, grids_lookup}
 use Rattle.grids.specs.Grids.{height_on}
 use Rattle.grids.specs.Grids.{height_on_or_none}
-use Rattle.lookup.proofs.Covering.{bounded_around, itself_serves}
-use Rattle.lookup.proofs.Found.{between_within, cell_holds, height_from, height_in_within}
+use Rattle.lookup.proofs.Covering.{itself_serves}
+use Rattle.lookup.proofs.Found.{between_within, cell_holds, found_within, height_from, height_in_within}
 use Rattle.lookup.proofs.Places.{in_cell}
-use Rattle.source.specs.Asked.{point_lookup, FoundWithin}
+use Rattle.source.specs.Asked.{point_lookup, HeightWithin, FoundWithin}
 
 -- The source by whether there are bounds, and its bounds.
 pub of_bounded : (g : Grid) → g.unbounded ≡ false → source_of g ≡ bounded_source g
@@ -44,7 +46,7 @@ inside_either g p = by g.unbounded refl
     by true e = rw e
     by false e = rw e
 
--- Where both lookups find values, each does; where one refuses, the way back has its number.
+-- Where both lookups find values, each does; and the way back is what it makes of both.
 module _ (s : Source) (q : Point) where
   pub both_found : (v : PointFound) → point_lookup s q ≡ values v
       → (s.corrections q ≡ values v.correction) × (s.height q ≡ values v.height)
@@ -56,16 +58,17 @@ module _ (s : Source) (q : Point) where
       let height : z.0 ≡ v.height = cc z.2 in
       (c.1 ∙ ap values correction, z.1 ∙ ap values height)
 
-  refused : (c : Outcome Correction) (z : Outcome Height) (H : ℤ) (n : ℕ)
-      → and_then c (λ c. and_then z (λ z. values (point_found c z))) ≡ number n
-      → and_then c (λ c. and_then z (λ found. values (answer_at (plus q c) (λ z. H +ℤ z) 1 found))) ≡ number n
-  refused (values c) (values z) H n e = let f : ◌≡◌ {A = ℕ} 0 1 = cc in absurd (omega arith)
-  refused (values c) (number m) H n e = cc
-  refused (number m) z H n e = cc
+  by_both : (c : Outcome Correction) (z : Outcome Height) {A : Type 0} (next : PointFound → Outcome A)
+      → and_then c (λ c. and_then z (λ z. next (point_found c z)))
+      ≡ and_then (and_then c (λ c. and_then z (λ z. values (point_found c z)))) next
+  by_both (values c) (values z) next = refl
+  by_both (values c) (number n) next = refl
+  by_both (number n) z next = refl
 
-  pub both_refused : (H : ℤ) (n : ℕ) → point_lookup s q ≡ number n → back s q H ≡ number n
+  pub back_by_both : (H : ℤ)
+      → back s q H ≡ and_then (point_lookup s q) (λ v. values (answer_at (plus q v.correction) (λ z. H +ℤ z) 1 v.height))
   unfolding point_lookup back
-  both_refused H n e = refused (s.corrections q) (s.height q) H n e
+  back_by_both H = by_both (s.corrections q) (s.height q) _
 
 -- At the corrections' nodes question 9 is put once for all values.
 both_asked : {A B C : Type 0} (t : Bool) (n : ℕ) (a : A) (b : B) (pair : A → B → C)
@@ -96,7 +99,7 @@ grids_asked g q two =
     let h = g.heights in
     in_order (square_passes correction_limit (corners_for c k.latitude q) && square_passes correction_limit (corners_for c k.longitude q))
     (inside h q) (square_passes quasi_geoid_limit (corners_for h g.height q)) _ _
-    corrections_between (λ h. some (height_between h)) point_found
+    corrections_between (λ h. Some (height_between h)) point_found
     ∙ (λ i. and_then (cond (sym two i) (correction_grid_lookup k q) (correction_lookup g q)) (λ c.
     and_then (cond (sym two i) (height_grid_lookup g q) (height_lookup g q)) (λ z. values (point_found c z))))
 
@@ -117,49 +120,55 @@ height_anywhere g q = by (inside g.heights q) refl
     by true e = rw e refl
     by false e = rw e refl
 
--- The held cell around a point holds it, and at the corrections' nodes has its height.
-module _ {b : List ℕ} {l : Layout} {q : Point} {h : HeldCell} (o : OpenAround b l q)
-    (e : h ≡ held_at l.latitude.geometry (grid_of b l) q)
-  where
-    pub around_holds : Holds h l.latitude.geometry q
-    around_holds =
-        cell_holds l.latitude.geometry (grid_of b l) q (itself_serves (bounded_around o)) (bounded_around o) h e
+-- What opening and question 8 establish, of a point in the bounds of a fit image.
+pub around : (i : FitImage) (q : Point) → inside (grid_in i).corrections q ≡ true → OpenAround i.bytes.now i.layout q
+around i q o = record { layout = i.fits; point = o }
 
-    pub height_around : l.separate ≡ false → height_in h l.latitude.geometry q ≡ height_lookup (grid_of b l) q
+-- The held cell around a point holds it, and at the corrections' nodes has its height.
+module _ (i : FitImage) (q : Point) {h : HeldCell} (o : inside (grid_in i).corrections q ≡ true)
+    (e : h ≡ held_at (grid_in i).corrections (grid_in i) q)
+  where
+    abbrev bounded : Bounded (grid_in i).corrections q
+    bounded = record { geometry = i.fits.latitude.geometry; point = o }
+
+    pub around_holds : Holds h (grid_in i).corrections q
+    around_holds = cell_holds (grid_in i).corrections (grid_in i) q (itself_serves bounded) bounded h e
+
+    pub height_around : i.layout.separate ≡ false → height_in h (grid_in i).corrections q ≡ height_lookup (grid_in i) q
     height_around one =
-        rw e
-        (height_from l.latitude.geometry (grid_of b l) q (itself_serves (bounded_around o)) one (o.layout.height_geometry one))
+        rw e (height_from (grid_in i).corrections (grid_in i) q (itself_serves bounded) one (i.fits.height_geometry one))
 
 -- A height that is found is within question 9's limit.
-on_within : (g : Geometry) (f : ℕ → ℕ → ℤ) (q : Point) (z : ℤ) → GeometryPasses g → height_on g f q ≡ values (some z)
+on_within : (g : Geometry) (f : ℕ → ℕ → ℤ) (q : Point) (z : ℤ) → GeometryPasses g → height_on g f q ≡ values (Some z)
     → nat_abs z ≤ quasi_geoid_limit
 unfolding height_on value_at value_in
 on_within g f q z o e =
-    let inner = asked (inside g q) 15 _ (some z) e in
-    let t = asked (square_passes quasi_geoid_limit (corners_for g f q)) 9 _ (some z) inner.1 in
+    let inner = asked (inside g q) 15 _ (Some z) e in
+    let t = asked (square_passes quasi_geoid_limit (corners_for g f q)) 9 _ (Some z) inner.1 in
     let v : value_at g f q ≡ z = cc t.1 in
     rw v at (between_within (corners_for g f q) (corners_within _ _ t.0) (in_cell (record { geometry = o; point = inner.0 })))
 
-pub height_within : {b : List ℕ} {l : Layout} {q : Point} (z : ℤ) → OpenAround b l q
-    → (bounded_source (grid_of b l)).height q ≡ values (some z) → nat_abs z ≤ quasi_geoid_limit
-height_within {b} {l} {q} z o e = by l.separate refl
+pub height_within : (i : FitImage) (q : Point) (z : ℤ) → inside (grid_in i).corrections q ≡ true
+    → (bounded_source (grid_in i)).height q ≡ values (Some z) → nat_abs z ≤ quasi_geoid_limit
+height_within i q z o e = by i.layout.separate refl
   where
     g : Grid
-    g = grid_of b l
+    g = grid_in i
 
-    by : (separate : Bool) → l.separate ≡ separate → nat_abs z ≤ quasi_geoid_limit
+    by : (separate : Bool) → i.layout.separate ≡ separate → nat_abs z ≤ quasi_geoid_limit
     by false one =
-        height_in_within (held_at g.corrections g q) g.corrections q z (around_holds o refl)
-        (height_around o refl one ∙ sym (height_of_one g q one) ∙ e)
-    by true two = on_within g.heights g.height q z o.layout.height.geometry (sym (height_of_two g q two) ∙ e)
+        height_in_within (held_at g.corrections g q) g.corrections q z (around_holds i q o refl)
+        (height_around i q o refl one ∙ sym (height_of_one g q one) ∙ e)
+    by true two = on_within g.heights g.height q z i.fits.height.geometry (sym (height_of_two g q two) ∙ e)
 
-within_found : (o : Outcome Height) → ((z : ℤ) → o ≡ values (some z) → nat_abs z ≤ quasi_geoid_limit) → FoundWithin o
-within_found (values (some z)) h = h z refl
-within_found (values none) h = tt
+within_found : (o : Outcome Height) → ((z : ℤ) → o ≡ values (Some z) → nat_abs z ≤ quasi_geoid_limit) → FoundWithin o
+within_found (values (Some z)) h = h z refl
+within_found (values None) h = tt
 within_found (number n) h = tt
 
-pub bounded_within : {b : List ℕ} {l : Layout} {q : Point} → OpenAround b l q → FoundWithin ((bounded_source (grid_of b l)).height q)
-bounded_within o = within_found _ (λ z e. height_within z o e)
+pub bounded_within : (i : FitImage) (q : Point) → inside (grid_in i).corrections q ≡ true
+    → FoundWithin ((bounded_source (grid_in i)).height q)
+bounded_within i q o = within_found _ (λ z e. height_within i q z o e)
 
 pub anywhere_within : (g : Geometry) (f : ℕ → ℕ → ℤ) (q : Point) → GeometryPasses g → FoundWithin (height_on_or_none g f q)
 anywhere_within g f q o = by (inside g q) refl
@@ -167,3 +176,18 @@ anywhere_within g f q o = by (inside g q) refl
     by : (t : Bool) → inside g q ≡ t → FoundWithin (height_on_or_none g f q)
     by true e = rw e (within_found _ (λ z h. on_within g f q z o h))
     by false e = rw e tt
+
+pub found_anywhere : (g : Geometry) (f : ℕ → ℕ → ℤ) (q : Point) (found : Height) → GeometryPasses g
+    → values found ≡ height_on_or_none g f q → HeightWithin found
+found_anywhere g f q found o e = subst FoundWithin (sym e) (anywhere_within g f q o)
+
+-- And so are all values that both lookups find.
+pub both_within : (i : FitImage) (q : Point) (v : PointValues) → inside (grid_in i).corrections q ≡ true
+    → values (values_found v) ≡ point_lookup (bounded_source (grid_in i)) q
+    → CorrectionWithin v.correction × (nat_abs v.height ≤ quasi_geoid_limit)
+both_within i q v o e =
+    let k = both_found (bounded_source (grid_in i)) q (values_found v) (sym e) in
+    (found_within i.bytes.now i.layout q v.correction (around i q o) k.0, height_within i q v.height o k.1)
+
+-- By which the way back over an opened image is proved.
+pub ruleset found_back = (point_within, both_within, back_by_both)

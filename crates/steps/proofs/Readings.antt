@@ -1,22 +1,21 @@
 -- The values that are read from bytes have 32 bits.
 use mathlib.Core.Bool.{Bool, true, false, cond}
 use mathlib.Core.List.{List}
-use mathlib.Core.Path.{◌≡◌, refl}
+use mathlib.Core.Path.{◌≡◌, refl, ap}
 use Prim.Native.Nat.{ℕ, ◌+◌, ◌*◌, ◌≤◌, ◌<◌}
 use native.Mathlib.Omega.{arith}
 use lib.Dec.{ltb}
-use lib.IntN.{pos, nat_abs, ◌-ℤ◌}
+use lib.IntN.{ℤ, pos, nat_abs, ◌-ℤ◌}
 use lib.ListN.{get_or}
 use borrow.Author.Tests.{ltb-true, ltb-false}
-use mir.Syntax.{w8}
-use mir.Val.{Fits}
+use mir.Syntax.{w8, w64}
+use mir.Val.{Fits, to_z, of_z}
 use Rattle.integers.specs.Difference.{lit, ◌⊖◌}
 use Rattle.integers.specs.Distance.{abs_is}
+use Rattle.integers.specs.Machine.{difference_back}
 use Rattle.rules.specs.Image.{twos_complement, u32_at, i32_at}
 use Rattle.rules.specs.declared.Run.{Run}
-use Rattle.rules.specs.declared.Runs.{Runs}
-use Rattle.steps.specs.declared.CorrectionRuns.{CorrectionRuns}
-use Rattle.steps.specs.Walk.{run_value, node_of, correction_of, Narrow, NarrowNode, NarrowCorrection}
+use Rattle.steps.specs.Walk.{run_value, Narrow}
 
 twos_narrow : (n : ℕ) → n < 4294967296 → Narrow (twos_complement 2147483648 n)
 twos_narrow n h = by (ltb n 2147483648) refl
@@ -32,16 +31,7 @@ module _ (b : List ℕ) (bytes : (i : ℕ) → Fits w8 (get_or b i 0)) where
       let at = run.first + run.stride * column in
       twos_narrow (u32_at b at) (omega (arith, bytes at, bytes (at + 1), bytes (at + 2), bytes (at + 3)))
 
-  pub node_narrow : (row : Runs) (column : ℕ) → NarrowNode (node_of b row column)
-  unfolding node_of
-  node_narrow row column =
-      record {
-        latitude = value_narrow row.latitude column;
-        longitude = value_narrow row.longitude column;
-        height = value_narrow row.height column;
-      }
-
-  pub correction_narrow : (row : CorrectionRuns) (column : ℕ) → NarrowCorrection (correction_of b row column)
-  unfolding correction_of
-  correction_narrow row column =
-      record { latitude = value_narrow row.latitude column; longitude = value_narrow row.longitude column }
+-- The difference of two such, as the machine reads it.
+pub gap_size : (x y : ℤ) → Narrow x → Narrow y
+    → nat_abs (to_z w64 (of_z w64 (to_z w64 (of_z w64 x) -ℤ to_z w64 (of_z w64 y)))) ≡ nat_abs (x -ℤ y)
+gap_size x y h k = ap nat_abs (difference_back x y (omega arith) (omega arith))

@@ -1,6 +1,6 @@
 -- The walk along a row that finds the largest steps, of the three values, of both corrections or of one value: each node is set beside its
 -- western and its southern neighbour. The first node is its own western neighbour: `column - 1` of 0 is 0.
-use Rattle.std.specs.Prelude.{Bool, ◌&&◌, List, ℕ, zero, suc, ◌+◌, ◌-◌, ◌*◌, ◌≤◌, ◌<◌, max, ℤ, nat_abs, ◌-ℤ◌}
+use Rattle.std.specs.Prelude.{Bool, ◌&&◌, Option, Some, None, List, ℕ, zero, suc, ◌+◌, ◌-◌, ◌*◌, ◌≤◌, ◌<◌, max, ℤ, nat_abs, ◌-ℤ◌}
 use Rattle.rules.specs.declared.Steps.{Steps}
 use Rattle.rules.specs.declared.Findings.{Findings}
 use Rattle.rules.specs.Units.{within, correction_limit, quasi_geoid_limit}
@@ -11,14 +11,8 @@ use Rattle.rules.specs.declared.Run.{Run}
 use Rattle.rules.specs.declared.Runs.{Runs}
 use Rattle.rules.specs.declared.Correction.{Correction}
 use Rattle.steps.specs.declared.Node.{Node}
-use Rattle.steps.specs.declared.Walk.{Walk}
-use Rattle.steps.specs.declared.Walk.TheVariants as walk
-use Rattle.steps.specs.declared.ValueWalk.{ValueWalk}
-use Rattle.steps.specs.declared.ValueWalk.TheVariants as valueWalk
 use Rattle.steps.specs.declared.CorrectionRuns.{CorrectionRuns}
 use Rattle.steps.specs.declared.CorrectionSteps.{CorrectionSteps}
-use Rattle.steps.specs.declared.CorrectionWalk.{CorrectionWalk}
-use Rattle.steps.specs.declared.CorrectionWalk.TheVariants as correctionWalk
 
 -- A value of a row in an image, the three of a node, and its corrections.
 unfoldable pub run_value : List ℕ → Run → (column : ℕ) → ℤ
@@ -48,14 +42,12 @@ pub record CorrectionInside (size : ℕ) (row : CorrectionRuns) (column : ℕ) :
   pub latitude : ValueInside size row.latitude column
   pub longitude : ValueInside size row.longitude column
 
+-- A fact of each column of a row that has so many.
+abbrev pub EachColumn : (columns : ℕ) → (ℕ → Type 0) → Type 0
+EachColumn columns holds = (column : ℕ) → column < columns → holds column
+
 abbrev pub RunInside : (size : ℕ) → Run → (columns : ℕ) → Type 0
-RunInside size run columns = (column : ℕ) → column < columns → ValueInside size run column
-
-abbrev pub RowInside : (size : ℕ) → Runs → (columns : ℕ) → Type 0
-RowInside size row columns = (column : ℕ) → column < columns → NodeInside size row column
-
-abbrev pub BothInside : (size : ℕ) → CorrectionRuns → (columns : ℕ) → Type 0
-BothInside size row columns = (column : ℕ) → column < columns → CorrectionInside size row column
+RunInside size run columns = EachColumn columns (ValueInside size run)
 
 -- Question 9 of a node.
 unfoldable pub node_passes : Node → Bool
@@ -65,17 +57,9 @@ unfoldable pub correction_passes : Correction → Bool
 correction_passes c = within correction_limit c.latitude && within correction_limit c.longitude
 
 -- What a walk finds, in the rules' terms: the largest steps, or the number of question 9.
-abbrev pub walked_of : Walk → Outcome Findings
-walked_of (walk.Largest f) = values f
-walked_of walk.Beyond = number 9
-
-abbrev pub value_walked_of : ValueWalk → Outcome Steps
-value_walked_of (valueWalk.Largest s) = values s
-value_walked_of valueWalk.Beyond = number 9
-
-abbrev pub corrections_walked_of : CorrectionWalk → Outcome CorrectionSteps
-corrections_walked_of (correctionWalk.Largest s) = values s
-corrections_walked_of correctionWalk.Beyond = number 9
+abbrev pub walked_of : {A : Type 0} → Option A → Outcome A
+walked_of (Some largest) = values largest
+walked_of None = number 9
 
 -- The largest steps of no nodes: of one value, of the three and of both corrections.
 abbrev pub no_steps : Steps
@@ -124,16 +108,6 @@ walk_over passes step n before = ask (every n passes) 9 (values (fold_up_to n st
 -- The walk along a row: nodes by column, and those of the row to the south.
 abbrev pub along_row : {A N : Type 0} → (N → Bool) → (A → (here west south : N) → A) → (south row : ℕ → N) (columns : ℕ) → A → Outcome A
 along_row passes add south row = walk_over (λ column. passes (row column)) (step_to add south row)
-
--- The same in an image: of the three values, of both corrections and of one value with its limit.
-abbrev pub row_walk : List ℕ → (south row : Runs) (columns : ℕ) → Findings → Outcome Findings
-row_walk b south row = along_row node_passes with_nodes (node_of b south) (node_of b row)
-
-abbrev pub correction_row_walk : List ℕ → (south row : CorrectionRuns) (columns : ℕ) → CorrectionSteps → Outcome CorrectionSteps
-correction_row_walk b south row = along_row correction_passes with_corrections (correction_of b south) (correction_of b row)
-
-abbrev pub values_walk : List ℕ → (limit : ℕ) (south row : Run) (columns : ℕ) → Steps → Outcome Steps
-values_walk b limit south row = along_row (within limit) with_node (run_value b south) (run_value b row)
 
 -- A value that is read from an image has 32 bits: the difference of two such fits.
 abbrev pub Narrow : ℤ → Type 0

@@ -1,14 +1,89 @@
-// The steps between neighbours along a row, of a node's three values, of its two corrections or of one value, with question 9 of each node.
+// The steps between neighbours along a row, with question 9 of each node. A node holds the three values, both corrections or one value:
+// what the rows of these have in common is a trait, and one walk goes along a row of any.
 #![tactic(auto)]
 
-ghost use Rattle.std.specs.Prelude.{◌≡◌, ◌≤◌, length};
-ghost use Rattle.steps.specs.Walk.{ValueInside, NodeInside, RunInside, RowInside, run_value, node_of, node_passes, Narrow, NarrowNode};
-ghost use Rattle.steps.specs.Walk.{no_steps, no_findings, with_node, with_nodes, walked_of, value_walked_of, row_walk, values_walk};
-ghost use Rattle.steps.specs.Walk.{CorrectionInside, BothInside, correction_of, correction_passes, NarrowCorrection};
-ghost use Rattle.steps.specs.Walk.{no_correction_steps, with_corrections, corrections_walked_of, correction_row_walk};
+ghost use Rattle.std.specs.Prelude.{◌≡◌, ◌≤◌, ℕ, List, Bool, length};
+ghost use Rattle.rules.specs.Units.{within};
+ghost use Rattle.steps.specs.Walk.{EachColumn, walked_of, along_row};
+ghost use Rattle.steps.specs.Walk.{NodeInside, NarrowNode, node_of, node_passes, no_findings, with_nodes};
+ghost use Rattle.steps.specs.Walk.{CorrectionInside, NarrowCorrection, correction_of};
+ghost use Rattle.steps.specs.Walk.{correction_passes, no_correction_steps, with_corrections};
+ghost use Rattle.steps.specs.Walk.{ValueInside, Narrow, run_value, no_steps, with_node};
 
-use numbers::{i32_at, is_within, larger, magnitude, three_within};
+use numbers::{i32_at, is_within, three_within};
 use rules::{CORRECTION_LIMIT, Correction, Findings, QUASI_GEOID_LIMIT, Run, Runs, Steps};
+
+// Where the nodes of a row lie in an image, what question 9 asks of each, and the steps to it from its neighbours.
+pub trait Row: Copy {
+    // What a node holds.
+    type Node: Copy;
+
+    // The largest steps of each value that it holds.
+    type Largest: Copy;
+
+    // The bytes of the node of a column are in an image of `size` bytes; that node; and that its values have 32 bits, so that the
+    // differences of two such fit.
+    ghost inside: { (size : ℕ) → Self → (column : ℕ) → Type 0 };
+
+    ghost node: { List ℕ → Self → (column : ℕ) → Self.Node };
+
+    ghost narrow: { Self.Node → Type 0 };
+
+    // Question 9 of a node.
+    ghost passes: { Self → Self.Node → Bool };
+
+    // The largest steps of no nodes; and with those to one more node, from its western and its southern neighbour.
+    ghost none: { Self.Largest };
+
+    ghost add: { Self.Largest → (here west south : Self.Node) → Self.Largest };
+
+    fn node(self, image: &[u8], column: u64) -> Self::Node
+        requires { inside (length image.now) self column }
+        ensures value { result ≡ node image.now self column }
+        ensures narrow { narrow result };
+
+    fn passes(self, here: Self::Node) -> bool
+        ensures { result ≡ passes self here };
+
+    fn none() -> Self::Largest
+        ensures { result ≡ none };
+
+    fn add(
+        largest: Self::Largest,
+        here: Self::Node,
+        west: Self::Node,
+        south: Self::Node,
+    ) -> Self::Largest
+        requires { narrow here × narrow west × narrow south }
+        ensures { result ≡ add largest here west south };
+}
+
+// A row from west to east, beside the row to its south: the largest steps, or nothing where a node is beyond question 9's limits. The first
+// node stands as its own western neighbour: a step of 0 changes no maximum.
+pub fn walk_row<R: Row>(
+    image: &[u8],
+    south: R,
+    row: R,
+    columns: u64,
+    before: R::Largest,
+) -> Option<R::Largest>
+    requires { (1 ≤ columns) × EachColumn columns (R.inside (length image.now) south)
+        × EachColumn columns (R.inside (length image.now) row) }
+    ensures { walked_of result
+        ≡ along_row (R.passes row) R.add (R.node image.now south) (R.node image.now row) columns before }
+{
+    let mut largest = before;
+    let mut west = row.node(image, 0);
+    for column in 0..columns {
+        let here = row.node(image, column);
+        if !row.passes(here) {
+            return None;
+        }
+        largest = R::add(largest, here, west, south.node(image, column));
+        west = here;
+    }
+    Some(largest)
+}
 
 // The three values of a node.
 #[derive(Clone, Copy)]
@@ -18,18 +93,68 @@ pub struct Node {
     pub height: i64,
 }
 
-// What a walk over nodes finds: all are within question 9's limits, with the largest steps so far; or one is beyond them.
-#[derive(Clone, Copy)]
-pub enum Walk {
-    Largest(Findings),
-    Beyond,
-}
+#[tactic(auto, unfolding(crate::specs::Walk::node_of, crate::specs::Walk::node_passes, crate::specs::Walk::with_nodes))]
+impl Row for Runs {
+    type Node = Node;
 
-// The same of one value.
-#[derive(Clone, Copy)]
-pub enum ValueWalk {
-    Largest(Steps),
-    Beyond,
+    type Largest = Findings;
+
+    ghost inside = { NodeInside };
+
+    ghost node = { node_of };
+
+    ghost narrow = { NarrowNode };
+
+    ghost passes = { λ _. node_passes };
+
+    ghost none = { no_findings };
+
+    ghost add = { with_nodes };
+
+    fn node(self, image: &[u8], column: u64) -> Node {
+        Node {
+            latitude: run_value(image, self.latitude, column),
+            longitude: run_value(image, self.longitude, column),
+            height: run_value(image, self.height, column),
+        }
+    }
+
+    fn passes(self, here: Node) -> bool {
+        three_within(
+            here.latitude,
+            CORRECTION_LIMIT,
+            here.longitude,
+            CORRECTION_LIMIT,
+            here.height,
+            QUASI_GEOID_LIMIT,
+        )
+    }
+
+    fn none() -> Findings {
+        Findings {
+            latitude: no_steps(),
+            longitude: no_steps(),
+            height: no_steps(),
+        }
+    }
+
+    fn add(largest: Findings, here: Node, west: Node, south: Node) -> Findings {
+        Findings {
+            latitude: with_node(
+                largest.latitude,
+                here.latitude,
+                west.latitude,
+                south.latitude,
+            ),
+            longitude: with_node(
+                largest.longitude,
+                here.longitude,
+                west.longitude,
+                south.longitude,
+            ),
+            height: with_node(largest.height, here.height, west.height, south.height),
+        }
+    }
 }
 
 // Where a row's corrections lie in their two planes.
@@ -46,147 +171,119 @@ pub struct CorrectionSteps {
     pub longitude: Steps,
 }
 
-// What a walk over nodes of corrections finds.
+#[tactic(auto, unfolding(crate::specs::Walk::correction_of, crate::specs::Walk::correction_passes, crate::specs::Walk::with_corrections))]
+impl Row for CorrectionRuns {
+    type Node = Correction;
+
+    type Largest = CorrectionSteps;
+
+    ghost inside = { CorrectionInside };
+
+    ghost node = { correction_of };
+
+    ghost narrow = { NarrowCorrection };
+
+    ghost passes = { λ _. correction_passes };
+
+    ghost none = { no_correction_steps };
+
+    ghost add = { with_corrections };
+
+    fn node(self, image: &[u8], column: u64) -> Correction {
+        Correction {
+            latitude: run_value(image, self.latitude, column),
+            longitude: run_value(image, self.longitude, column),
+        }
+    }
+
+    fn passes(self, here: Correction) -> bool {
+        is_within(here.latitude, CORRECTION_LIMIT) && is_within(here.longitude, CORRECTION_LIMIT)
+    }
+
+    fn none() -> CorrectionSteps {
+        CorrectionSteps {
+            latitude: no_steps(),
+            longitude: no_steps(),
+        }
+    }
+
+    fn add(
+        largest: CorrectionSteps,
+        here: Correction,
+        west: Correction,
+        south: Correction,
+    ) -> CorrectionSteps {
+        CorrectionSteps {
+            latitude: with_node(
+                largest.latitude,
+                here.latitude,
+                west.latitude,
+                south.latitude,
+            ),
+            longitude: with_node(
+                largest.longitude,
+                here.longitude,
+                west.longitude,
+                south.longitude,
+            ),
+        }
+    }
+}
+
+// Where a row's values lie in a plane, and how far from zero question 9 allows them.
 #[derive(Clone, Copy)]
-pub enum CorrectionWalk {
-    Largest(CorrectionSteps),
-    Beyond,
+pub struct LimitedRun {
+    pub run: Run,
+    pub limit: u64,
 }
 
-// A row from west to east, beside the row to its south. The first node stands as its own western neighbour: a step of 0 changes no maximum.
-pub fn walk_row(image: &[u8], south: Runs, row: Runs, columns: u64, before: Findings) -> Walk
-    requires { (1 ≤ columns) × RowInside (length image.now) south columns × RowInside (length image.now) row columns }
-    ensures { walked_of result ≡ row_walk image.now south row columns before }
-{
-    let mut found = before;
-    let mut west = node_of(image, row, 0);
-    let mut column: u64 = 0;
-    while column < columns {
-        let here = node_of(image, row, column);
-        if !node_passes(here) {
-            return Walk::Beyond;
-        }
-        found = with_nodes(found, here, west, node_of(image, south, column));
-        west = here;
-        column += 1;
+impl Row for LimitedRun {
+    type Node = i64;
+
+    type Largest = Steps;
+
+    ghost inside = { λ size row. ValueInside size row.run };
+
+    ghost node = { λ b row. run_value b row.run };
+
+    ghost narrow = { Narrow };
+
+    ghost passes = { λ row. within row.limit };
+
+    ghost none = { no_steps };
+
+    ghost add = { with_node };
+
+    fn node(self, image: &[u8], column: u64) -> i64 {
+        run_value(image, self.run, column)
     }
-    Walk::Largest(found)
-}
 
-// The same of nodes of corrections.
-pub fn walk_correction_row(
-    image: &[u8],
-    south: CorrectionRuns,
-    row: CorrectionRuns,
-    columns: u64,
-    before: CorrectionSteps,
-) -> CorrectionWalk
-    requires { (1 ≤ columns) × BothInside (length image.now) south columns × BothInside (length image.now) row columns }
-    ensures { corrections_walked_of result ≡ correction_row_walk image.now south row columns before }
-{
-    let mut found = before;
-    let mut west = correction_of(image, row, 0);
-    let mut column = 0;
-    while column < columns {
-        let here = correction_of(image, row, column);
-        if !correction_passes(here) {
-            return CorrectionWalk::Beyond;
-        }
-        found = with_corrections(found, here, west, correction_of(image, south, column));
-        west = here;
-        column += 1;
+    fn passes(self, here: i64) -> bool {
+        is_within(here, self.limit)
     }
-    CorrectionWalk::Largest(found)
-}
 
-// The same of one value, which has a limit and lies by itself in an image.
-pub fn walk_values(
-    image: &[u8],
-    south: Run,
-    row: Run,
-    columns: u64,
-    limit: u64,
-    before: Steps,
-) -> ValueWalk
-    requires { (1 ≤ columns) × RunInside (length image.now) south columns × RunInside (length image.now) row columns }
-    ensures { value_walked_of result ≡ values_walk image.now limit south row columns before }
-{
-    let mut found = before;
-    let mut west = run_value(image, row, 0);
-    let mut column = 0;
-    while column < columns {
-        let here = run_value(image, row, column);
-        if !is_within(here, limit) {
-            return ValueWalk::Beyond;
-        }
-        found = with_node(found, here, west, run_value(image, south, column));
-        west = here;
-        column += 1;
+    fn none() -> Steps {
+        no_steps()
     }
-    ValueWalk::Largest(found)
-}
 
-// The node of a column.
-fn node_of(image: &[u8], row: Runs, column: u64) -> Node
-    requires { NodeInside (length image.now) row column }
-    ensures { result ≡ node_of image.now row column }
-{
-    let latitude = run_value(image, row.latitude, column);
-    let longitude = run_value(image, row.longitude, column);
-    let height = run_value(image, row.height, column);
-    Node {
-        latitude,
-        longitude,
-        height,
+    fn add(largest: Steps, here: i64, west: i64, south: i64) -> Steps {
+        with_node(largest, here, west, south)
     }
 }
 
-fn correction_of(image: &[u8], row: CorrectionRuns, column: u64) -> Correction
-    requires { CorrectionInside (length image.now) row column }
-    ensures { result ≡ correction_of image.now row column }
-{
-    let latitude = run_value(image, row.latitude, column);
-    let longitude = run_value(image, row.longitude, column);
-    Correction {
-        latitude,
-        longitude,
-    }
-}
-
-// One of its values, from its plane's run.
+// The value of a column. It has 32 bits.
+#[tactic(auto, unfolding(crate::specs::Walk::run_value))]
 pub fn run_value(image: &[u8], run: Run, column: u64) -> i64
     requires { ValueInside (length image.now) run column }
-    ensures { result ≡ run_value image.now run column }
+    ensures value { result ≡ run_value image.now run column }
+    ensures narrow { Narrow result }
 {
     i32_at(image, (run.first + run.stride * column) as usize)
 }
 
-// Question 9 of a node.
-fn node_passes(n: Node) -> bool
-    ensures { result ≡ node_passes n }
-{
-    three_within(
-        n.latitude,
-        CORRECTION_LIMIT,
-        n.longitude,
-        CORRECTION_LIMIT,
-        n.height,
-        QUASI_GEOID_LIMIT,
-    )
-}
-
-fn correction_passes(c: Correction) -> bool
-    ensures { result ≡ correction_passes c }
-{
-    if is_within(c.latitude, CORRECTION_LIMIT) {
-        is_within(c.longitude, CORRECTION_LIMIT)
-    } else {
-        false
-    }
-}
-
-// The largest steps of no nodes: of one value, of the three and of both corrections.
-pub fn no_steps() -> Steps
+// The largest steps of one value: of no nodes, and with those to one more node from its western and its southern neighbour. The differences
+// of numbers of 32 bits fit; `abs_diff`, which would do for any, takes a comparison more.
+fn no_steps() -> Steps
     ensures { result ≡ no_steps }
 {
     Steps {
@@ -195,78 +292,13 @@ pub fn no_steps() -> Steps
     }
 }
 
-pub fn no_findings() -> Findings
-    ensures { result ≡ no_findings }
-{
-    let none = no_steps();
-    Findings {
-        latitude: none,
-        longitude: none,
-        height: none,
-    }
-}
-
-pub fn no_correction_steps() -> CorrectionSteps
-    ensures { result ≡ no_correction_steps }
-{
-    let none = no_steps();
-    CorrectionSteps {
-        latitude: none,
-        longitude: none,
-    }
-}
-
-// The largest steps with those to one more node, from its western and its southern neighbour.
-fn with_nodes(found: Findings, here: Node, west: Node, south: Node) -> Findings
-    requires { NarrowNode here × NarrowNode west × NarrowNode south }
-    ensures { result ≡ with_nodes found here west south }
-{
-    let latitude = with_node(found.latitude, here.latitude, west.latitude, south.latitude);
-    let longitude = with_node(
-        found.longitude,
-        here.longitude,
-        west.longitude,
-        south.longitude,
-    );
-    let height = with_node(found.height, here.height, west.height, south.height);
-    Findings {
-        latitude,
-        longitude,
-        height,
-    }
-}
-
-fn with_corrections(
-    found: CorrectionSteps,
-    here: Correction,
-    west: Correction,
-    south: Correction,
-) -> CorrectionSteps
-    requires { NarrowCorrection here × NarrowCorrection west × NarrowCorrection south }
-    ensures { result ≡ with_corrections found here west south }
-{
-    let latitude = with_node(found.latitude, here.latitude, west.latitude, south.latitude);
-    let longitude = with_node(
-        found.longitude,
-        here.longitude,
-        west.longitude,
-        south.longitude,
-    );
-    CorrectionSteps {
-        latitude,
-        longitude,
-    }
-}
-
-// The same of one value. The differences of numbers of 32 bits fit.
-fn with_node(found: Steps, here: i64, west: i64, south: i64) -> Steps
+#[tactic(auto, using(crate::proofs::Readings::gap_size), unfolding(crate::specs::Walk::with_node))]
+fn with_node(largest: Steps, here: i64, west: i64, south: i64) -> Steps
     requires { Narrow here × Narrow west × Narrow south }
-    ensures { result ≡ with_node found here west south }
+    ensures { result ≡ with_node largest here west south }
 {
-    let northward = larger(found.northward, magnitude(here - south));
-    let eastward = larger(found.eastward, magnitude(here - west));
     Steps {
-        northward,
-        eastward,
+        northward: largest.northward.max((here - south).unsigned_abs()),
+        eastward: largest.eastward.max((here - west).unsigned_abs()),
     }
 }

@@ -4,29 +4,30 @@
 ghost use Rattle.std.specs.Prelude.{Option, List, ℕ, take};
 ghost use Rattle.std.specs.Counts.{IsPrefixLen};
 ghost use Rattle.std.specs.Io.KnownBytes.{Consumes};
+ghost use Rattle.streams.specs.Read.{size_read};
 
-use numbers::magnitude;
 use refusals::refusal_number;
 use rules::Refusal;
 use std::io;
 use std::io::Read;
 
-// What was read from standard input: how many bytes, and whether more than these are there.
+// An input that is longer than an image can be, and how many of its bytes were read.
 #[derive(Drop)]
-pub struct Input {
+pub struct TooLong {
     pub size: usize,
-    pub too_long: bool,
 }
 
-// Reads an image of at most 65,536 bytes from standard input, `stdin`. A read that fails counts as the input's end. Of an input whose bytes
-// are known these are the first.
-pub fn read_image<R: Read>(stdin: &mut R, image: &mut [u8; 65536]) -> Input
-    ensures within { IsPrefixLen result.size image.new }
-    ensures first { (rest : Option (List ℕ)) × Consumes (R.remaining stdin.old) rest (take result.size image.new) }
+// Reads an image of at most 65,536 bytes from standard input, `stdin`: how many bytes it has. A read that fails counts as the input's end.
+// Of an input whose bytes are known these are the first.
+pub fn read_image<R: Read>(stdin: &mut R, image: &mut [u8; 65536]) -> Result<usize, TooLong>
+    ensures within { IsPrefixLen (size_read result) image.new }
+    ensures first { (rest : Option (List ℕ)) × Consumes (R.remaining stdin.old) rest (take (size_read result) image.new) }
 {
     let size = read_full(stdin, image);
-    let too_long = has_more(stdin);
-    Input { size, too_long }
+    if has_more(stdin) {
+        return Err(TooLong { size });
+    }
+    Ok(size)
 }
 
 // Is there a byte left on standard input?
@@ -35,7 +36,8 @@ fn has_more<R: Read>(stdin: &mut R) -> bool {
     read_full(stdin, &mut next) != 0
 }
 
-// Reads until the buffer is full, the input ends or a read fails: how many bytes stand at its start.
+// Reads until the buffer is full, the input ends or a read fails: how many bytes stand at its start. A `while`, since a turn goes on by as
+// many bytes as the read gave.
 fn read_full<R: Read>(stdin: &mut R, buffer: &mut [u8]) -> usize
     ensures within { IsPrefixLen result buffer.new }
     ensures first { Consumes (R.remaining stdin.old) (R.remaining stdin.new) (take result buffer.new) }
@@ -57,7 +59,5 @@ pub fn print_field(rt: &impl Print, n: u64) -> io::Result<()> {
 
 // Ends a line with `refused` and the refusal's number.
 pub fn print_refusal(rt: &impl Print, r: Refusal) -> io::Result<()> {
-    print!(rt; "refused")?;
-    print_field(rt, magnitude(refusal_number(r)))?;
-    println!(rt)
+    println!(rt; "refused {}", refusal_number(r))
 }

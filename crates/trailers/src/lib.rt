@@ -8,6 +8,7 @@ use numbers::{i64_at, u32_at};
 use rules::{Axis, Geometry, GridTrailer, Trailer, TwoGridTrailer};
 
 // The edition, the last number in both editions.
+#[tactic(auto, unfolding(rules::specs::Image::edition_of))]
 pub fn read_edition(image: &[u8]) -> u64
     requires { 4 ≤ length image.now }
     ensures { result ≡ edition_of image.now }
@@ -16,57 +17,51 @@ pub fn read_edition(image: &[u8]) -> u64
 }
 
 // Edition 1's trailer, the last 40 bytes.
+#[tactic(auto, unfolding(rules::specs::Image::trailer_of))]
 pub fn read_trailer(image: &[u8]) -> Trailer
     requires { 40 ≤ length image.now }
     ensures { result ≡ trailer_of image.now }
 {
     let at = image.len() - 40;
-    let geometry = geometry_at(image, at);
-    let back = u32_at(image, at + 32);
-    let edition = u32_at(image, at + 36);
     Trailer {
-        geometry,
-        back,
-        edition,
+        geometry: geometry_at(image, at),
+        back: u32_at(image, at + 32),
+        edition: u32_at(image, at + 36),
     }
 }
 
 // Edition 2's trailer, the last 80 bytes.
+#[tactic(auto, unfolding(rules::specs::Image::two_grid_trailer_of))]
 pub fn read_two_grid_trailer(image: &[u8]) -> TwoGridTrailer
     requires { 80 ≤ length image.now }
     ensures { result ≡ two_grid_trailer_of image.now }
 {
     let at = image.len() - 80;
-    let correction_geometry = geometry_at(image, at);
-    let height_geometry = geometry_at(image, at + 32);
-    let correction_back = u32_at(image, at + 64);
-    let height_back = u32_at(image, at + 68);
-    let kind = u32_at(image, at + 72);
-    let corrections = GridTrailer {
-        geometry: correction_geometry,
-        back: correction_back,
-    };
-    let heights = GridTrailer {
-        geometry: height_geometry,
-        back: height_back,
-    };
     TwoGridTrailer {
-        corrections,
-        heights,
-        kind,
+        corrections: GridTrailer {
+            geometry: geometry_at(image, at),
+            back: u32_at(image, at + 64),
+        },
+        heights: GridTrailer {
+            geometry: geometry_at(image, at + 32),
+            back: u32_at(image, at + 68),
+        },
+        kind: u32_at(image, at + 72),
     }
 }
 
 // The geometry and the back of kind 1's dense grid, from the 36 bytes directly before the correction nodes, which lie `correction_back`
 // before the image's end.
+#[tactic(auto, unfolding(rules::specs::Image::dense_trailer_of))]
 pub fn read_dense_trailer(image: &[u8], correction_back: u64) -> GridTrailer
     requires { (36 + correction_back ≤ length image.now) × (correction_back ≡ (two_grid_trailer_of image.now).corrections.back) }
     ensures { result ≡ dense_trailer_of image.now }
 {
     let at = image.len() - 36 - correction_back as usize;
-    let geometry = geometry_at(image, at);
-    let back = u32_at(image, at + 32);
-    GridTrailer { geometry, back }
+    GridTrailer {
+        geometry: geometry_at(image, at),
+        back: u32_at(image, at + 32),
+    }
 }
 
 // The 32 bytes of a geometry.
@@ -74,24 +69,16 @@ fn geometry_at(image: &[u8], at: usize) -> Geometry
     requires { at + 32 ≤ length image.now }
     ensures { result ≡ geometry_at image.now at }
 {
-    let south = i64_at(image, at);
-    let west = i64_at(image, at + 8);
-    let latitude_spacing = u32_at(image, at + 16);
-    let longitude_spacing = u32_at(image, at + 20);
-    let rows = u32_at(image, at + 24);
-    let columns = u32_at(image, at + 28);
-    let latitude = Axis {
-        start: south,
-        spacing: latitude_spacing,
-        count: rows,
-    };
-    let longitude = Axis {
-        start: west,
-        spacing: longitude_spacing,
-        count: columns,
-    };
     Geometry {
-        latitude,
-        longitude,
+        latitude: Axis {
+            start: i64_at(image, at),
+            spacing: u32_at(image, at + 16),
+            count: u32_at(image, at + 24),
+        },
+        longitude: Axis {
+            start: i64_at(image, at + 8),
+            spacing: u32_at(image, at + 20),
+            count: u32_at(image, at + 28),
+        },
     }
 }

@@ -9,7 +9,8 @@ use Rattle.rules.specs.Units.{out_height_limit, back_height_limit, most_evaluati
 use Rattle.rules.specs.Answers.{Outcome, values, number, and_then}
 use Rattle.rules.specs.Image.{grid_of}
 use Rattle.rules.specs.Questions.{opening}
-use Rattle.rules.specs.Lookup.{Height, some, none}
+use Rattle.rules.specs.Lookup.{Height}
+use Rattle.std.specs.Prelude.{Some, None}
 use Rattle.rules.specs.Ways.{Source, Accepted, answer_at, question7, plus, iterate, back, out}
 use Rattle.rules.specs.Ways.{convert_over, source_of, convert, way_out, way_back}
 use Rattle.rules.specs.Promise.{point_of}
@@ -20,8 +21,8 @@ use Rattle.trip.specs.Back.{same_number}
 
 -- The number of an answer by the height that was looked up.
 abbrev height_number : Height → ℕ
-height_number (some z) = 0
-height_number none = no_height_number
+height_number (Some z) = 0
+height_number None = no_height_number
 
 -- An answer with this lookup at q, the point that it is for.
 record AnsweredAt (s : Source) (q : Point) (a : Accepted) : Type 0 where
@@ -30,8 +31,8 @@ record AnsweredAt (s : Source) (q : Point) (a : Accepted) : Type 0 where
   numbered : a.number ≡ height_number found
 
 answer_number : (p : Point) (makes : ℤ → ℤ) (n : ℕ) (found : Height) → (answer_at p makes n found).number ≡ height_number found
-answer_number p makes n (some z) = refl
-answer_number p makes n none = refl
+answer_number p makes n (Some z) = refl
+answer_number p makes n None = refl
 
 module _ (s : Source) where
   answered_at : (q p : Point) (makes : ℤ → ℤ) (n : ℕ) (a : Accepted)

@@ -1,2 +1,3 @@
 -- Laws of the way out's turns.
+pub mod Bounds
 pub mod Turns

@@ -11,21 +11,18 @@ use lib.ListN.{length}
 use borrow.Author.Tests.{le-leb, eqb-true}
 use Rattle.integers.specs.Booleans.{and_left, and_right}
 use Rattle.rules.specs.declared.Geometry.{Geometry}
-use Rattle.rules.specs.Units.{within, latitude_limit, longitude_limit, spacing_most}
+use Rattle.rules.specs.Units.{within, latitude_limit, longitude_limit, spacing_most, count_most}
 use Rattle.rules.specs.Answers.{values}
 use Rattle.rules.specs.Image.{rows, columns}
-use Rattle.rules.specs.Questions.{questions_3_to_5}
+use Rattle.rules.specs.Questions.{question3, questions_3_to_5}
 use Rattle.rules.specs.Limits.{AxisPasses, GeometryPasses}
 use Rattle.rules.specs.Vdatum.{degrees_at, header_axis, header_of, axis_finite, height_bytes, question16, question17, heights_from}
 use Rattle.rules.specs.Floats.{binary64, finite}
 use Rattle.rules.specs.Vdatum.{big_u64_at}
 use Rattle.rules.proofs.Answers.{asked}
 use Rattle.rules.proofs.Files.{natural_most, questions_establish, both_axes}
-use Rattle.vdatum.specs.Reading.{degrees_fit}
-
--- Both numbers of an axis are finite and within 180 degrees.
-abbrev pub axis_fits : List ℕ → (start spacing : ℕ) → Bool
-axis_fits b start spacing = degrees_fit b start && degrees_fit b spacing
+use Rattle.rules.proofs.Opening.{nodes_most}
+use Rattle.vdatum.specs.Reading.{degrees_fit, axis_fits}
 
 both_fit : (f w g v : Bool) → w ≡ true → v ≡ true → (f && g) ≡ ((f && w) && (g && v))
 both_fit true w true v h k = rw (h, k)
@@ -58,6 +55,11 @@ header_tested b room =
     (λ h.
     let p = questions_establish g h in
     (axis_fits_lem b 0 16 32 latitude_limit (omega arith) p.latitude, axis_fits_lem b 8 24 36 longitude_limit (omega arith) p.longitude))
+
+-- A geometry that passes has not too many nodes.
+pub counted : (g : Geometry) → questions_3_to_5 g ≡ true → rows g * columns g ≤ count_most * count_most
+unfolding questions_3_to_5
+counted g h = nodes_most g (and_left (question3 g) _ h)
 
 -- Its last tests, of the geometry and of both lengths.
 abbrev lengths_pass : (size room : ℕ) → Geometry → Bool

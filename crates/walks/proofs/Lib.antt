@@ -1,5 +1,4 @@
 -- Laws of the walks over all rows.
 pub mod Rows
 pub mod Maxima
-pub mod PlaneRows
-pub mod Planes
+pub mod Outcomes

@@ -18,8 +18,8 @@ use Rattle.rules.specs.Check.{all_within, largest, step_north, step_east, steps_
 use Rattle.rules.proofs.Largest.{largest_none, largest_steps}
 use Rattle.steps.specs.Walk.{no_steps, no_findings, no_correction_steps, with_node, with_nodes, with_corrections, fold_up_to, step_to}
 use Rattle.steps.specs.Walk.{walk_over}
-use Rattle.walks.specs.Rows.{plane_walk}
-use Rattle.walks.proofs.Rows.{row_steps, over_rows, node_at, correction_at}
+use Rattle.walks.specs.Rows.{row_steps, over_rows, plane_walk}
+use Rattle.walks.proofs.Rows.{node_at, correction_at}
 
 -- A number that each step n raises to f n at least ends as the larger of the first and the largest f.
 fold_largest : {A : Type 0} (size : A → ℕ) (f : ℕ → ℕ) (step : ℕ → A → A) → ((n : ℕ) (a : A) → size (step n a) ≡ max (size a) (f n))
@@ -74,7 +74,7 @@ module _ {A N : Type 0} (add : A → N → N → N → A) (nodes : ℕ → ℕ �
       }
 
 -- The walk over the rows of one value.
-pub plane_found : (limit : ℕ) (g : Geometry) (f : ℕ → ℕ → ℤ) → over_rows (within limit) with_node f g no_steps ≡ plane_walk limit g f
+pub plane_found : (limit : ℕ) (g : Geometry) (f : ℕ → ℕ → ℤ) → over_rows (λ _. within limit) with_node f g no_steps ≡ plane_walk limit g f
 unfolding walk_over plane_walk all_within
 plane_found limit g f =
     ap (λ (s : Steps). ask (all_within limit g f) 9 (values s))

@@ -1,2 +1,3 @@
 -- What the contracts of the walks over all nodes cite.
 pub mod Rows
+pub mod Inside

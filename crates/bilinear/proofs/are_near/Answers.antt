@@ -1,27 +1,22 @@
 -- `bilinear::are_near` meets its contract: the differences of corners are small, so each fits.
 use mathlib.Core.Bool.{◌&&◌}
-use mathlib.Core.Path.{◌≡◌}
+use mathlib.Core.Path.{◌≡◌, ◌∙◌}
 use native.Mathlib.Omega.{arith}
 use lib.IntN.{◌-ℤ◌}
 use Rattle.integers.specs.Booleans.{and_next, and_stop}
 use Rattle.integers.specs.Machine.{difference_back}
-use Rattle.rules.specs.declared.Square.{Square}
 use Rattle.rules.specs.Units.{within}
-use Rattle.rules.specs.Bilinear.{square_of}
 use Rattle.bilinear.specs.Mean.{near_limit, near}
 use Rattle.bilinear.proofs.are_near.Goals as goal
-use Rattle.bilinear.proofs.are_near.Goals.{After-three_within, Start}
-
-abbrev square : Start → Square
-square s = square_of s.args.corners
+use Rattle.bilinear.proofs.are_near.Goals.{After-three_within}
 
 -- the first test, on the differences themselves
-first : (c : After-three_within) → let q = square (goal.at.After-three_within c).Start in
+first : (c : After-three_within) → let q = c.args.c in
     c.three_within.result
     ≡ (within near_limit (q.southeast -ℤ q.southwest)
     && (within near_limit (q.northwest -ℤ q.southwest) && within near_limit (q.northeast -ℤ q.southwest)))
 first c =
-    let q = square (goal.at.After-three_within c).Start in
+    let q = c.args.c in
     rw (
       difference_back q.southeast q.southwest (omega arith) (omega arith),
       difference_back q.northwest q.southwest (omega arith) (omega arith),
@@ -35,4 +30,5 @@ returns-then-three_within c =
 
 pub returns-else-three_within : goal.returns-else-three_within
 unfolding near
-returns-else-three_within c = and_stop _ (first (goal.at.returns-else-three_within c).After-three_within) c.if-three_within.false
+returns-else-three_within c =
+    c.if-three_within.false ∙ and_stop _ (first (goal.at.returns-else-three_within c).After-three_within) c.if-three_within.false

@@ -5,7 +5,7 @@ use Rattle.bilinear.proofs.divided_in_steps.Goals as goal
 use Rattle.bilinear.proofs.divided_in_steps.Goals.{After-mix-left}
 
 steps : (c : After-mix-left) → let a = c.args in
-    InSteps a.s a.n a.u a.latitude_spacing a.longitude_spacing c.mix-t.result c.mix-left.result
+    InSteps a.r.south a.r.north a.u a.s.latitude a.s.longitude c.mix-t.result c.mix-left.result
 steps c = in_steps c.requires c.mix-t.ensures c.mix-left.ensures
 
 pub mix-t-requires : goal.mix-t-requires

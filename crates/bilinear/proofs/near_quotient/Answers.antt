@@ -5,4 +5,4 @@ use Rattle.bilinear.proofs.near_quotient.Goals as goal
 pub mix-sum-requires : goal.mix-sum-requires
 mix-sum-requires c =
     let pre = c.requires in
-    rw (c.mix-south.ensures, c.mix-north.ensures) (rows_mixable pre.0 pre.1 pre.2)
+    rw c.mixed-rows.ensures (rows_mixable pre.0 pre.1 pre.2)

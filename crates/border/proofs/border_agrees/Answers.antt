@@ -8,12 +8,13 @@ use Rattle.border.proofs.border_agrees.Goals as goal
 pub returns-then-plane_agrees : goal.returns-then-plane_agrees
 unfolding question21
 returns-then-plane_agrees c =
-    let longitude = plane c.args.image.now c.args.l.longitude in
+    let image = c.args.image.now in
+    let longitude = plane image.bytes.now image.layout.longitude in
     let dense = c.beside.ensures in
     and_next c.plane_agrees.ensures c.if-plane_agrees.true
     (c.plane_agrees-then-plane_agrees.ensures
-    ∙ (λ i. border_agrees (c.requires.0.longitude_geometry i) (dense i).geometry longitude (plane c.args.image.now (dense i))))
+    ∙ (λ i. border_agrees (image.fits.longitude_geometry i) (dense i).geometry longitude (plane image.bytes.now (dense i))))
 
 pub returns-else-plane_agrees : goal.returns-else-plane_agrees
 unfolding question21
-returns-else-plane_agrees c = and_stop _ c.plane_agrees.ensures c.if-plane_agrees.false
+returns-else-plane_agrees c = c.if-plane_agrees.false ∙ and_stop _ c.plane_agrees.ensures c.if-plane_agrees.false

@@ -49,4 +49,4 @@ returns c =
     sum_back (product s.e rest) (product s.next s.part)
     (product_small s.e rest p.1 (omega arith)) (product_small s.next s.part p.2 (omega arith))
     ∙ (λ i. product_is s.e rest p.1 (omega arith) i +ℤ product_is s.next s.part p.2 (omega arith) i) in
-    ap (λ (n : ℕ). leb n s.spacing) (c.distance.ensures ∙ (λ i. nat_abs (value i -ℤ exact i)))
+    ap (λ (n : ℕ). leb n s.spacing) (c.abs_diff.ensures ∙ (λ i. nat_abs (value i -ℤ exact i)))

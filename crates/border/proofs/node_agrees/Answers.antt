@@ -25,12 +25,12 @@ on_line_lem c = omega (arith, cell c, cell_nodes c.args.coarse c.args.x c.requir
 -- the values of both nodes
 value : (c : After-run_value-e) → let s = c.args in
     to_z w64 (of_z w64 c.run_value-e.result) ≡ run_value s.image.now s.parent (cell_of s.coarse s.x)
-value c = told w64 c.run_value-e.type_inv c.run_value-e.ensures ∙ ap (run_value _ _) (cell (goal.at.After-run_value-e c).After-locate-place)
+value c = told w64 c.run_value-e.type_inv c.run_value-e.ensures.value ∙ ap (run_value _ _) (cell (goal.at.After-run_value-e c).After-locate-place)
 
 next : (c : After-run_value-next) → let s = c.args in
     to_z w64 (of_z w64 c.run_value-next.result) ≡ run_value s.image.now s.parent (cell_of s.coarse s.x + 1)
 next c =
-    told w64 c.run_value-next.type_inv c.run_value-next.ensures
+    told w64 c.run_value-next.type_inv c.run_value-next.ensures.value
     ∙ ap (run_value _ _) (ap (λ (n : ℕ). n + 1) (cell (goal.at.After-run_value-next c).After-locate-place))
 
 -- all values have 32 bits, whichever is which: of that it is said in the results

@@ -4,6 +4,8 @@ use mathlib.Core.Path.{◌≡◌, refl, sym, ◌∙◌}
 use Prim.Native.Nat.{◌+◌, ◌-◌, ◌*◌, ◌≤◌}
 use native.Mathlib.Omega.{arith}
 use mir.Syntax.{w64}
+use mir.Val.{to_z, of_z}
+use Rattle.std.proofs.Common.{rules}
 use Rattle.integers.specs.Machine.{reads_back, told}
 use Rattle.rules.specs.Bilinear.{offset}
 use Rattle.rules.specs.Check.{every}
@@ -24,14 +26,15 @@ offset_on-start-requires c =
 
 pub loop-i-init : goal.loop-i-init
 unfolding every
-loop-i-init c = (omega arith, refl)
+loop-i-init c = refl
 
 -- where the first node lies, and this one
 first : (c : After-offset_on-start) → let s = c.args in
     c.offset_on-start.result ≡ offset s.coarse s.dense.start
 first c =
     let s = c.args in
-    rw (reads_back w64 s.dense.start c.struct_told-1.given.0.1) at c.offset_on-start.ensures
+    let e : to_z w64 (of_z w64 s.dense.start) ≡ s.dense.start = search rules in
+    rw e at c.offset_on-start.ensures
 
 place : (c : In-loop-i) → let s = c.args in
     c.offset_on-start.result + c.loop-i.i * s.dense.spacing ≤ (s.coarse.count - 1) * s.coarse.spacing
@@ -44,7 +47,7 @@ answered : (c : After-node_agrees) → let s = c.args in
     c.node_agrees.result ≡ test s.image.now s.parent s.coarse s.border s.dense c.loop-i.i
 answered c =
     let s = c.args in
-    let value = told w64 c.run_value.type_inv c.run_value.ensures in
+    let value = told w64 c.run_value.type_inv c.run_value.ensures.value in
     c.node_agrees.ensures
     ∙ (λ i. node_agrees s.coarse (run_value s.image.now s.parent)
     (first (goal.at.After-node_agrees c).After-offset_on-start i + c.loop-i.i * s.dense.spacing) (value i))
@@ -53,7 +56,7 @@ pub node_agrees-requires : goal.node_agrees-requires
 node_agrees-requires c =
     let p = c.requires in
     let narrow = value_narrow _ c.type_inv.image in
-    (p.0, p.3, rw (told w64 c.run_value.type_inv c.run_value.ensures) (narrow _ _), place (goal.at.node_agrees-requires c).In-loop-i)
+    (p.0, p.3, rw (told w64 c.run_value.type_inv c.run_value.ensures.value) (narrow _ _), place (goal.at.node_agrees-requires c).In-loop-i)
 
 pub returns-then-not-node_agrees : goal.returns-then-not-node_agrees
 unfolding side_agrees
@@ -62,15 +65,12 @@ returns-then-not-node_agrees c =
     ∙ c.if-not-node_agrees.true))
 
 pub loop-i-preserved : goal.loop-i-preserved
-loop-i-preserved c = (
-  omega arith,
-  every_more _ _ c.loop-i.invariant.1 (sym (answered (goal.at.loop-i-preserved c).After-node_agrees)
-      ∙ c.if-not-node_agrees.false),
-)
+loop-i-preserved c =
+    every_more _ _ c.loop-i.invariant (sym (answered (goal.at.loop-i-preserved c).After-node_agrees) ∙ c.if-not-node_agrees.false)
 
 pub returns : goal.returns
 unfolding side_agrees
 returns c =
     let s = c.args in
     let all : c.loop-i.i ≡ s.dense.count = omega arith in
-    sym (rw all at c.loop-i.invariant.1)
+    sym (rw all at c.loop-i.invariant)

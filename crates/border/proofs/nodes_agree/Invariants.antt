@@ -3,7 +3,7 @@
 use mathlib.Core.Bool.{Bool, true}
 use mathlib.Core.List.{List}
 use mathlib.Core.Path.{◌≡◌}
-use Prim.Native.Nat.{ℕ, ◌+◌, ◌-◌, ◌*◌, ◌≤◌}
+use Prim.Native.Nat.{ℕ, ◌+◌, ◌*◌}
 use Rattle.rules.specs.declared.Axis.{Axis}
 use Rattle.rules.specs.declared.Run.{Run}
 use Rattle.rules.specs.Bilinear.{offset}
@@ -18,8 +18,4 @@ test b parent coarse border dense i =
     node_agrees coarse (run_value b parent) (offset coarse dense.start + i * dense.spacing) (run_value b border i)
 
 abbrev pub invariant-loop-i : goal.invariant-loop-i
-invariant-loop-i l =
-    (l.i ≤ l.dense.count) × (every l.i (test l.image l.parent l.coarse l.border l.dense) ≡ true)
-
-abbrev pub decreases-loop-i : goal.decreases-loop-i
-decreases-loop-i l = l.dense.count - l.i
+invariant-loop-i l = every l.i (test l.image l.parent l.coarse l.border l.dense) ≡ true

@@ -74,4 +74,5 @@ returns-then-sides_agree c = and_next (rows (goal.at.returns-then-sides_agree c)
 
 pub returns-else-sides_agree : goal.returns-else-sides_agree
 unfolding border_agrees
-returns-else-sides_agree c = and_stop _ (rows (goal.at.returns-else-sides_agree c).After-sides_agree) c.if-sides_agree.false
+returns-else-sides_agree c =
+    c.if-sides_agree.false ∙ and_stop _ (rows (goal.at.returns-else-sides_agree c).After-sides_agree) c.if-sides_agree.false

@@ -48,4 +48,5 @@ pub returns-else-sides_are_zero : goal.returns-else-sides_are_zero
 unfolding border_zero
 returns-else-sides_are_zero c =
     let s = c.args in
-    and_stop _ (by_first (goal.at.returns-else-sides_are_zero c).After-sides_are_zero ∙ by_rows s.image.now s.p) c.if-sides_are_zero.false
+    c.if-sides_are_zero.false
+    ∙ and_stop _ (by_first (goal.at.returns-else-sides_are_zero c).After-sides_are_zero ∙ by_rows s.image.now s.p) c.if-sides_are_zero.false

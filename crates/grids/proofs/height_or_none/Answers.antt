@@ -1,64 +1,52 @@
 -- `grids::height_or_none` meets its contract: off the height grid there is none; on it question 9, then the value between the corners.
+use Rattle.std.specs.Prelude.{Some}
+use Rattle.std.proofs.lemmas.Result.{err_from_is_err_and}
 use mathlib.Core.Bool.{true}
 use mathlib.Core.Path.{◌≡◌, sym, ap, ◌∙◌}
 use lib.IntN.{ℤ}
 use mir.Syntax.{w64}
 use Rattle.integers.specs.Machine.{told}
-use Rattle.rules.specs.Units.{quasi_geoid_limit}
-use Rattle.rules.specs.Answers.{values}
+use Rattle.rules.specs.Answers.{values, outcome_of}
 use Rattle.rules.specs.Image.{plane}
-use Rattle.rules.specs.Bilinear.{corners_for, value_at}
-use Rattle.rules.specs.Lookup.{some, inside, square_passes}
-use Rattle.rules.proofs.Limits.{corners_within}
-use Rattle.lookup.specs.Held.{Bounded, value_in}
-use Rattle.lookup.proofs.Found.{heights_within}
-use Rattle.lookup.proofs.Places.{cell_inside, place_inside}
-use Rattle.grids.specs.Grids.{height_on}
+use Rattle.rules.specs.Lookup.{inside}
+use Rattle.grids.specs.Grids.{asked_height}
+use Rattle.grids.proofs.OnGrids.{heights_weighed, height_found}
 use Rattle.grids.proofs.height_or_none.Goals as goal
-use Rattle.grids.proofs.height_or_none.Goals.{After-corners_at-corners, After-square_passes, Else-not-in_bounds}
+use Rattle.grids.proofs.height_or_none.Goals.{Else-not-in_bounds, In_ok-h}
 
-on_grid : (c : Else-not-in_bounds) → let s = c.args in inside s.p.geometry s.q ≡ true
+on_grid : (c : Else-not-in_bounds) → inside c.args.p.geometry c.args.q ≡ true
 on_grid c = sym c.in_bounds.ensures ∙ c.if-not-in_bounds.false
 
-bounded : (c : Else-not-in_bounds) → let s = c.args in Bounded s.p.geometry s.q
-bounded c = record { geometry = c.requires.geometry; point = on_grid c }
+found : (c : In_ok-h) → let s = c.args in asked_height s.p.geometry (plane s.image.now s.p) s.q ≡ values c.in_ok-h.h
+found c = sym c.height_cell_inside.ensures ∙ ap outcome_of c.in_ok-h.was
 
-pub corners_at-corners-requires : goal.corners_at-corners-requires
-corners_at-corners-requires c =
-    (c.requires, cell_inside (bounded (goal.at.corners_at-corners-requires c).Else-not-in_bounds) c.cell_of-cell.ensures)
+pub height_cell_inside-requires : goal.height_cell_inside-requires
+height_cell_inside-requires c =
+    (c.requires, record { geometry = c.requires.geometry; point = on_grid (goal.at.height_cell_inside-requires c).Else-not-in_bounds })
 
-corners : (c : After-corners_at-corners) → let s = c.args in
-    c.corners_at-corners.result ≡ corners_for s.p.geometry (plane s.image.now s.p) s.q
-corners c = rw c.cell_of-cell.ensures at c.corners_at-corners.ensures
-
-asked : (c : After-square_passes) → let s = c.args in
-    c.square_passes.result ≡ square_passes quasi_geoid_limit (corners_for s.p.geometry (plane s.image.now s.p) s.q)
-asked c = c.square_passes.ensures ∙ ap (square_passes quasi_geoid_limit) (corners (goal.at.After-square_passes c).After-corners_at-corners)
-
-pub returns-then-not-square_passes : goal.returns-then-not-square_passes
-unfolding height_on
-returns-then-not-square_passes c =
-    rw (
-      on_grid (goal.at.returns-then-not-square_passes c).Else-not-in_bounds,
-      sym
-          (asked (goal.at.returns-then-not-square_passes c).After-square_passes) ∙ c.if-not-square_passes.true,
-    )
-
-pub value_between-requires : goal.value_between-requires
-value_between-requires c =
-    let passes = sym c.square_passes.ensures ∙ c.if-not-square_passes.false in
-    let place = place_inside (bounded (goal.at.value_between-requires c).Else-not-in_bounds) c.cell_of-cell.ensures in
-    (heights_within (corners_within _ _ passes), rw c.spacings_of-spacings.ensures place)
+pub height_between-requires : goal.height_between-requires
+height_between-requires c =
+    let s = c.args in
+    let on = on_grid (goal.at.height_between-requires c).Else-not-in_bounds in
+    heights_weighed (plane s.image.now s.p) s.q (record { geometry = c.requires.geometry; point = on })
+    (found (goal.at.height_between-requires c).In_ok-h)
 
 pub returns : goal.returns
-unfolding height_on value_at value_in
 returns c =
-    let value = told w64 c.value_between.type_inv (c.value_between.ensures
-    ∙
-    (λ i. value_in (corners (goal.at.returns c).After-corners_at-corners i) (c.spacings_of-spacings.ensures i)
-    (c.cell_of-cell.ensures i).at)) in
+    let s = c.args in
+    let on = on_grid (goal.at.returns c).Else-not-in_bounds in
+    rw (on, ← height_found s.p.geometry (plane s.image.now s.p) s.q on, found (goal.at.returns c).In_ok-h)
+    (ap (λ (z : ℤ). values (Some z)) (told w64 c.height_between.type_inv c.height_between.ensures))
+
+pub returns-in_err-h : goal.returns-in_err-h
+returns-in_err-h c =
+    let s = c.args in
+    let p = err_from_is_err_and c.from_residual.result c.from_residual.ensures.1 in
+    let on = on_grid (goal.at.returns-in_err-h c).Else-not-in_bounds in
     rw (
-      on_grid (goal.at.returns c).Else-not-in_bounds,
-      sym (asked (goal.at.returns c).After-square_passes)
-          ∙ c.if-not-square_passes.false,
-    ) (ap (λ (z : ℤ). values (some z)) value)
+      p.1,
+      p.2,
+      on,
+      ← height_found s.p.geometry (plane s.image.now s.p) s.q on,
+      sym c.height_cell_inside.ensures ∙ ap outcome_of c.in_err-h.was,
+    )

@@ -1,61 +1,46 @@
--- `lookup::look_up_node_height` meets its contract: the corners of the point's cell answer question 9, and its heights are weighed at the
--- point's place there.
-use mathlib.Core.Bool.{true}
-use mathlib.Core.Path.{◌≡◌, sym, ap, ◌∙◌}
+-- `lookup::look_up_node_height` meets its contract: the value between the heights of the corners that passed question 9.
+use Rattle.std.specs.Prelude.{Some}
+use Rattle.std.proofs.lemmas.Result.{err_from_is_err_and}
+use mathlib.Core.Path.{sym, ap, ◌∙◌}
 use lib.IntN.{ℤ}
 use mir.Syntax.{w64}
 use Rattle.integers.specs.Machine.{told}
-use Rattle.rules.specs.Answers.{values}
-use Rattle.rules.specs.Image.{Grid, grid_of}
+use Rattle.rules.specs.Answers.{values, number, outcome_of}
 use Rattle.rules.specs.Bilinear.{value_at}
-use Rattle.rules.specs.Lookup.{some, question9, height_lookup}
-use Rattle.rules.proofs.Answers.{answered_yes, answered_no}
+use Rattle.rules.specs.Lookup.{height_lookup}
+use Rattle.rules.proofs.Answers.{asked_no}
+use Rattle.image.specs.Fit.{grid_in}
 use Rattle.lookup.specs.declared.PointValues.{PointValues}
-use Rattle.lookup.specs.Held.{value_in}
-use Rattle.lookup.proofs.Covering.{bounded_around}
-use Rattle.lookup.proofs.Found.{passing_corners, heights_within, node_asked, node_values_lem}
-use Rattle.lookup.proofs.Places.{cell_inside, place_inside}
+use Rattle.lookup.specs.Held.{value_in, values_in}
+use Rattle.lookup.proofs.Covering.{bounded_in}
+use Rattle.lookup.proofs.Found.{Passed, passed, passing_corners, heights_within, node_values_lem}
 use Rattle.lookup.proofs.look_up_node_height.Goals as goal
-use Rattle.lookup.proofs.look_up_node_height.Goals.{After-corners_pass, Else-not-corners_pass, Start}
+use Rattle.lookup.proofs.look_up_node_height.Goals.{In_ok-cell}
 
-abbrev grid : Start → Grid
-grid s = grid_of s.args.image.now s.args.l
-
-pub corners_around-corners-requires : goal.corners_around-corners-requires
-corners_around-corners-requires c =
-    let o = c.requires in
-    (o.0.layout, o.1, cell_inside (bounded_around o.0) c.cell_of-cell.ensures)
-
-asked : (c : After-corners_pass) → c.corners_pass.result ≡ question9 (grid (goal.at.After-corners_pass c).Start) c.args.p
-asked c =
-    c.corners_pass.ensures
-    ∙ node_asked (grid (goal.at.After-corners_pass c).Start) c.args.p c.requires.1 c.cell_of-cell.ensures c.corners_around-corners.ensures
-
-pub returns-then-not-corners_pass : goal.returns-then-not-corners_pass
-unfolding height_lookup
-returns-then-not-corners_pass c =
-    sym
-    (answered_no (question9 (grid (goal.at.returns-then-not-corners_pass c).Start) c.args.p) 9 _
-    (sym (asked (goal.at.returns-then-not-corners_pass c).After-corners_pass) ∙ c.if-not-corners_pass.true))
-
-passes : (c : Else-not-corners_pass) → c.corners_pass.result ≡ true
-passes c = c.if-not-corners_pass.false
+-- what question 9 says of the cell
+cell : (c : In_ok-cell) → Passed (grid_in c.args.image.now) c.args.p c.in_ok-cell.cell
+cell c =
+    passed (grid_in c.args.image.now) c.args.p (bounded_in c.args.image.now c.requires.0) c.requires.1
+    (sym c.passing_cell.ensures ∙ ap outcome_of c.in_ok-cell.was)
 
 pub value_between-requires : goal.value_between-requires
 value_between-requires c =
-    let w = passing_corners (sym c.corners_pass.ensures ∙ passes (goal.at.value_between-requires c).Else-not-corners_pass) in
-    (heights_within w.height, rw c.spacings_of.ensures (place_inside (bounded_around c.requires.0) c.cell_of-cell.ensures))
+    let k = cell (goal.at.value_between-requires c).In_ok-cell in (heights_within (passing_corners k.corners).height, k.place)
 
 pub returns : goal.returns
-unfolding height_lookup
+unfolding height_lookup value_in
 returns c =
-    let g = grid (goal.at.returns c).Start in
-    let p = c.args.p in
-    let all = node_values_lem g p c.requires.1 c.cell_of-cell.ensures c.corners_around-corners.ensures in
-    let same = c.requires.0.layout.height_geometry c.requires.1 in
-    let found = told w64 c.value_between.type_inv (c.value_between.ensures
-    ∙ (λ i. value_in c.corners_around-corners.result.height (c.spacings_of.ensures i) c.cell_of-cell.result.at)
-    ∙ ap (λ (v : PointValues). v.height) all ∙ (λ i. value_at (sym same i) g.height p)) in
-    ap (λ (z : ℤ). values (some z)) found
-    ∙ sym (answered_yes (question9 g p) 9 _ (sym (asked (goal.at.returns c).After-corners_pass)
-    ∙ passes (goal.at.returns c).Else-not-corners_pass))
+    let k = cell (goal.at.returns c).In_ok-cell in
+    let g = grid_in c.args.image.now in
+    let same = c.args.image.now.fits.height_geometry c.requires.1 in
+    rw k.answer
+    (ap (λ (z : ℤ). values (Some z)) (told w64 c.value_between.type_inv c.value_between.ensures
+    ∙ ap (λ (v : PointValues). v.height) (ap values_in (sym k.cell_is) ∙ node_values_lem g c.args.p c.requires.1)
+    ∙ (λ i. value_at (sym same i) g.height c.args.p)))
+
+pub returns-in_err-cell : goal.returns-in_err-cell
+unfolding height_lookup
+returns-in_err-cell c =
+    let p = err_from_is_err_and c.from_residual.result c.from_residual.ensures.1 in
+    let t = asked_no _ 9 _ _ (sym c.passing_cell.ensures ∙ ap outcome_of c.in_err-cell.was) in
+    rw (p.1, p.2, t.0) (ap number t.1)

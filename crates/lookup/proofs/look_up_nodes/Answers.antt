@@ -1,52 +1,37 @@
--- `lookup::look_up_nodes` meets its contract: the corners of the point's cell answer question 9, and are weighed at its place there.
-use mathlib.Core.Bool.{true}
-use mathlib.Core.Path.{◌≡◌, sym, ap, ◌∙◌}
-use Rattle.rules.specs.Answers.{values}
-use Rattle.rules.specs.Image.{Grid, grid_of}
-use Rattle.rules.specs.Lookup.{question9}
-use Rattle.rules.proofs.Answers.{answered_yes, answered_no}
+-- `lookup::look_up_nodes` meets its contract: the values between the corners that passed question 9.
+use Rattle.std.proofs.lemmas.Result.{err_from_is_err_and}
+use mathlib.Core.Path.{sym, ap, ◌∙◌}
+use Rattle.rules.specs.Answers.{values, number, outcome_of}
+use Rattle.rules.proofs.Answers.{asked_no}
+use Rattle.image.specs.Fit.{grid_in}
 use Rattle.lookup.specs.declared.PointValues.{PointValues}
 use Rattle.lookup.specs.Held.{values_in, values_found, node_lookup}
-use Rattle.lookup.proofs.Covering.{bounded_around}
-use Rattle.lookup.proofs.Found.{node_asked, node_values_lem}
-use Rattle.lookup.proofs.Places.{cell_inside, place_inside}
+use Rattle.lookup.proofs.Covering.{bounded_in}
+use Rattle.lookup.proofs.Found.{Passed, passed, node_values_lem}
 use Rattle.lookup.proofs.look_up_nodes.Goals as goal
-use Rattle.lookup.proofs.look_up_nodes.Goals.{After-corners_pass, Else-not-corners_pass, Start}
+use Rattle.lookup.proofs.look_up_nodes.Goals.{In_ok-passing_cell}
 
-abbrev grid : Start → Grid
-grid s = grid_of s.args.image.now s.args.l
-
-pub corners_around-c-requires : goal.corners_around-c-requires
-corners_around-c-requires c =
-    let o = c.requires in
-    (o.0.layout, o.1, cell_inside (bounded_around o.0) c.cell_of-cell.ensures)
-
-asked : (c : After-corners_pass) → c.corners_pass.result ≡ question9 (grid (goal.at.After-corners_pass c).Start) c.args.p
-asked c =
-    c.corners_pass.ensures
-    ∙ node_asked (grid (goal.at.After-corners_pass c).Start) c.args.p c.requires.1 c.cell_of-cell.ensures c.corners_around-c.ensures
-
-pub returns-then-not-corners_pass : goal.returns-then-not-corners_pass
-unfolding node_lookup
-returns-then-not-corners_pass c =
-    sym
-    (answered_no (question9 (grid (goal.at.returns-then-not-corners_pass c).Start) c.args.p) 9 _
-    (sym (asked (goal.at.returns-then-not-corners_pass c).After-corners_pass) ∙ c.if-not-corners_pass.true))
-
-passes : (c : Else-not-corners_pass) → c.corners_pass.result ≡ true
-passes c = c.if-not-corners_pass.false
+-- what question 9 says of the cell
+cell : (c : In_ok-passing_cell) → Passed (grid_in c.args.image.now) c.args.p c.in_ok-passing_cell.field-0
+cell c =
+    passed (grid_in c.args.image.now) c.args.p (bounded_in c.args.image.now c.requires.0) c.requires.1
+    (sym c.passing_cell.ensures ∙ ap outcome_of c.in_ok-passing_cell.was)
 
 pub values_between-requires : goal.values_between-requires
-values_between-requires c =
-    let place = place_inside (bounded_around c.requires.0) c.cell_of-cell.ensures in
-    (sym c.corners_pass.ensures ∙ passes (goal.at.values_between-requires c).Else-not-corners_pass, rw c.spacings_of.ensures place)
+values_between-requires c = let k = cell (goal.at.values_between-requires c).In_ok-passing_cell in (k.corners, k.place)
 
 pub returns : goal.returns
 unfolding node_lookup
 returns c =
-    let found = c.values_between.ensures
-    ∙ (λ i. values_in c.corners_around-c.result (c.spacings_of.ensures i) c.cell_of-cell.result.at)
-    ∙ node_values_lem (grid (goal.at.returns c).Start) c.args.p c.requires.1 c.cell_of-cell.ensures c.corners_around-c.ensures in
-    ap (λ (v : PointValues). values (values_found v)) found
-    ∙ sym (answered_yes (question9 (grid (goal.at.returns c).Start) c.args.p) 9 _ (sym (asked (goal.at.returns c).After-corners_pass)
-    ∙ passes (goal.at.returns c).Else-not-corners_pass))
+    let k = cell (goal.at.returns c).In_ok-passing_cell in
+    let g = grid_in c.args.image.now in
+    rw k.answer
+    (ap (λ (v : PointValues). values (values_found v))
+    (c.values_between.ensures ∙ ap values_in (sym k.cell_is) ∙ node_values_lem g c.args.p c.requires.1))
+
+pub returns-in_err-passing_cell : goal.returns-in_err-passing_cell
+unfolding node_lookup
+returns-in_err-passing_cell c =
+    let p = err_from_is_err_and c.from_residual.result c.from_residual.ensures.1 in
+    let t = asked_no _ 9 _ _ (sym c.passing_cell.ensures ∙ ap outcome_of c.in_err-passing_cell.was) in
+    rw (p.1, p.2, t.0) (ap number t.1)

@@ -5,12 +5,12 @@ use Rattle.integers.specs.Machine.{reads_back}
 use Rattle.rules.proofs.Cells.{on_latitude, on_longitude}
 use Rattle.lookup.proofs.offsets_of.Goals as goal
 
-pub offset_on-northing-requires : goal.offset_on-northing-requires
-offset_on-northing-requires c =
+pub offset_on-requires : goal.offset_on-requires
+offset_on-requires c =
     let e = reads_back w64 c.args.p.latitude c.type_inv.p.0.1 in
     (omega arith, rw e (on_latitude c.args.g c.args.p c.requires.point))
 
-pub offset_on-easting-requires : goal.offset_on-easting-requires
-offset_on-easting-requires c =
+pub offset_on-requires-2 : goal.offset_on-requires-2
+offset_on-requires-2 c =
     let e = reads_back w64 c.args.p.longitude c.type_inv.p.1.0.1 in
     (omega arith, rw e (on_longitude c.args.g c.args.p c.requires.point))

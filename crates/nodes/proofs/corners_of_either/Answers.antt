@@ -1,9 +1,7 @@
 -- `nodes::corners_of_either` meets its contract: both rows begin in the nodes that they are taken from, and each row's two corners are what
 -- `pair_in` ensures of its bytes.
-use Prim.Native.Nat.{ℕ, ◌+◌, ◌*◌, ◌≤◌}
+use Prim.Native.Nat.{ℕ, ◌+◌}
 use mathlib.Core.List.{List}
-use lib.ListN.{length}
-use Rattle.rules.specs.Units.{count_most}
 use Rattle.nodes.specs.Row.{pair_of, square_of}
 use Rattle.nodes.specs.Either.{either}
 use Rattle.nodes.proofs.Parts.{value_in_nodes}
@@ -13,21 +11,14 @@ use Rattle.nodes.proofs.corners_of_either.Goals.{Start}
 abbrev nodes : Start → List ℕ
 nodes s = either s.args.in_dense s.args.dense.now s.args.coarse.now
 
--- where both rows begin, and that all four corners lie in the nodes
-record Bounds (s : Start) : Type 0 where
-  nodes_most : length (nodes s) ≤ 18446744073709551615
-  count_most : (s.args.row + 1) * s.args.columns ≤ count_most * count_most
-  corners_in : s.args.stride * ((s.args.row + 1) * s.args.columns) + s.args.stride * (s.args.column + 1) + 4 ≤ length (nodes s)
-  south_first : s.args.stride * (s.args.row * s.args.columns) ≤ s.args.stride * ((s.args.row + 1) * s.args.columns)
-
 pub returns : goal.returns
 returns c =
     let s = c.args in
     let row = value_in_nodes (nodes (goal.at.returns c).Start) s.stride s.columns in
     rw (
       c.square_of.ensures,
-      c.pair_in-below.ensures,
-      c.pair_in-above.ensures,
+      c.pair_in.ensures,
+      c.pair_in-2.ensures,
       c.row_bytes-south.ensures,
       c.row_bytes-north.ensures,
     ) (λ i. square_of (pair_of (λ column. row s.row column i) s.column) (pair_of (λ column. row (s.row + 1) column i) s.column))

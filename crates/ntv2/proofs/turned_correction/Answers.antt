@@ -4,4 +4,4 @@ use Rattle.ntv2.proofs.Shifts.{turned_fits_lem}
 use Rattle.ntv2.proofs.turned_correction.Goals as goal
 
 pub fit_correction-requires : goal.fit_correction-requires
-fit_correction-requires c = sym (turned_fits_lem _ _ c.turned_f32.ensures) ∙ c.requires.1
+fit_correction-requires c = sym (turned_fits_lem _ _ c.turned.ensures) ∙ c.requires.1

@@ -9,24 +9,23 @@ use Rattle.ntv2.specs.Burned.{node_long}
 use Rattle.ntv2.proofs.write_row.Goals as goal
 
 pub loop-column-init : goal.loop-column-init
-loop-column-init c = (omega arith, c.requires.2, written_none 8 _ _ _ (omega arith))
+loop-column-init c = written_none 8 _ _ _ refl
 
 pub write_node-requires : goal.write_node-requires
 unfolding RowFits
 write_node-requires c =
-    (simp (length-take, length-drop) (omega arith), omega arith, c.requires.4 c.loop-column.column (omega arith))
+    let l = c.loop-column in
+    let i = c.loop-column-test.true in
+    (simp (length-take, length-drop) (omega (arith, l.auto.part, i, c.requires.2)), omega (arith, i, c.requires.3), c.requires.4 l.column i)
 
 pub loop-column-preserved : goal.loop-column-preserved
 loop-column-preserved c =
-    let l = c.loop-column in (
-      omega arith,
-      omega arith,
-      written_more 8 _ _ _ _ _ _ _ (node_long _ _ _ _) (omega arith) c.write_node.ensures refl l.invariant.2,
-    )
+    let l = c.loop-column in
+    written_more 8 _ _ _ _ _ _ _ (node_long _ _ _ _) (omega (arith, l.auto.part, c.loop-column-test.true, c.requires.2)) c.write_node.ensures refl l.invariant
 
 pub returns : goal.returns
 unfolding correction_row
 returns c =
     let l = c.loop-column in
-    let e : l.column ≡ c.args.columns = omega arith in
-    written_all 8 _ _ _ l.invariant.1 (rw e at l.invariant.2)
+    let e : l.column ≡ c.args.columns = omega (arith, l.auto.column-end, c.loop-column-test.false) in
+    written_all 8 _ _ _ (omega (arith, l.auto.part, c.requires.2)) (rw e at l.invariant)

@@ -1,14 +1,7 @@
 -- The invariant of `ntv2::write_row`: the nodes of the first columns are written.
-use mathlib.Core.Path.{◌≡◌}
-use Prim.Native.Nat.{◌*◌, ◌-◌, ◌≤◌}
-use lib.ListN.{length}
 use Rattle.rules.proofs.Buffer.{Written}
 use Rattle.ntv2.specs.Burned.{nodes}
 use Rattle.ntv2.proofs.write_row.Given as goal
 
 abbrev pub invariant-loop-column : goal.invariant-loop-column
-invariant-loop-column l =
-    (l.column ≤ l.columns) × (length l.part ≡ 8 * l.columns) × Written 8 (nodes l.grid l.columns l.row) l.part l.column
-
-abbrev pub decreases-loop-column : goal.decreases-loop-column
-decreases-loop-column l = l.columns - l.column
+invariant-loop-column l = Written 8 (nodes l.grid l.columns l.row) l.part l.column

@@ -1,36 +1,26 @@
--- `opened::way_out` meets its contract: questions 1 to 6, then the way out through the record that the layout found makes.
+-- `opened::way_out` meets its contract: questions 1 to 6, then the way out over the record.
 use mathlib.Core.Path.{◌≡◌, sym, ap, ◌∙◌}
-use mir.Syntax.{w64}
-use mir.Val.{to_z, of_z}
-use mir.Facts.{to_z-of_z}
-use Rattle.rules.specs.declared.Way.TheVariants as way
+use Rattle.std.proofs.lemmas.Result.{err_from_is_err_and}
+use Rattle.rules.specs.Questions.{opening}
 use Rattle.rules.specs.Answers.{values}
-use Rattle.rules.specs.Image.{grid_of}
-use Rattle.rules.specs.Questions.{opening, opened_of}
-use Rattle.rules.specs.Ways.{source_of, convert_over, convert, answer_of}
+use Rattle.rules.specs.Ways.{convert}
 use Rattle.rules.proofs.Opening.{opened}
+use Rattle.opened.proofs.Opening.{found, refused}
 use Rattle.opened.proofs.way_out.Goals as goal
-use Rattle.opened.proofs.way_out.Goals.{After-layout_of, After-out_through}
 
--- the layout that is handed on
-laid : (c : After-layout_of) → opening c.args.bytes.now ≡ values c.layout_of.result
-laid c = sym c.«open».ensures ∙ ap (opened_of _) c.in-Separate.is ∙ ap values (sym c.layout_of.ensures)
-
-pub out_through-requires : goal.out_through-requires
-out_through-requires c = opened _ _ (laid c)
-
--- what the call tells, at the fix that was made of the point and the height
-told : (c : After-out_through) →
-    let s = c.args in
-    let grid = grid_of s.bytes.now c.layout_of.result in
-    answer_of c.out_through.result ≡ convert_over way.Out (source_of grid) s.p (to_z w64 (of_z w64 s.height))
-told c = c.out_through.ensures
-
-pub returns-in-Separate : goal.returns-in-Separate
+pub returns-in_err-open : goal.returns-in_err-open
 unfolding convert
-returns-in-Separate c =
-    rw (laid (goal.at.returns-in-Separate c).After-layout_of) (rw (to_z-of_z c.ranges.height) at (told c))
+returns-in_err-open c =
+    let p = err_from_is_err_and c.from_residual.result c.from_residual.ensures.1 in
+    rw (p.1, p.2, refused c.args.bytes _ c.in_err-open.ensures)
 
-pub returns-in-Refused : goal.returns-in-Refused
+pub out_over_image-requires : goal.out_over_image-requires
+out_over_image-requires c =
+    let f = found c.args.bytes c.in_ok-open.field-0 c.in_ok-open.ensures in
+    opened _ _ (rw f.same at f.opens)
+
+pub returns : goal.returns
 unfolding convert
-returns-in-Refused c = rw (sym c.«open».ensures ∙ ap (opened_of _) c.in-Refused.is)
+returns c =
+    let f = found c.args.bytes c.in_ok-open.field-0 c.in_ok-open.ensures in
+    rw (f.opens, f.same) c.out_over_image.ensures

@@ -2,17 +2,17 @@
 -- held is the one around each point that lies in it and takes its corrections from its grid.
 use mathlib.Core.Bool.{true}
 use mathlib.Core.Path.{◌≡◌}
-use Prim.Native.Nat.{◌-◌, ◌≤◌}
-use Rattle.rules.specs.Units.{most_evaluations}
 use Rattle.rules.specs.Lookup.{inside}
+use Rattle.image.specs.Fit.{grid_in}
 use Rattle.turns.proofs.Turns.{from}
 use Rattle.out.proofs.Held.{Holding}
 use Rattle.out.proofs.out_from.Given as goal
 
 abbrev pub invariant-loop-n : goal.invariant-loop-n
 invariant-loop-n l =
-    (l.n ≤ most_evaluations) × (inside l.l.latitude.geometry l.r ≡ true) × (from l.image l.l l.p 0 l.p ≡ from l.image l.l l.p l.n l.r)
-    × Holding l.image l.l l.held l.dense
-
-abbrev pub decreases-loop-n : goal.decreases-loop-n
-decreases-loop-n l = most_evaluations - l.n
+    let way = from l.image.bytes.now l.image.layout l.fix.point in
+    record {
+      in_bounds : inside (grid_in l.image).corrections l.r ≡ true;
+      same : way 0 l.fix.point ≡ way l.n l.r;
+      holding : Holding l.image l.held l.dense;
+    }

@@ -1,27 +1,14 @@
--- `slopes::grid_check` meets its contract: questions 1 to 6 by `open`, the others by `check_planes`.
-use mathlib.Core.Path.{◌≡◌, sym, ap, ◌∙◌}
-use Rattle.rules.specs.Answers.{values}
-use Rattle.rules.specs.Image.{layout_for}
-use Rattle.rules.specs.Questions.{opening, opened_of}
+-- `slopes::grid_check` meets its contract: questions 1 to 6 by `open`, the others by `check_planes` over the same bytes.
+use Rattle.std.proofs.lemmas.Result.{err_from_is_err_and}
 use Rattle.rules.specs.Check.{grid_check}
-use Rattle.rules.proofs.Opening.{opened}
 use Rattle.slopes.proofs.grid_check.Goals as goal
-use Rattle.slopes.proofs.grid_check.Goals.{After-layout_of, In-Separate}
 
--- an image that opened, and the layout that is handed on
-found : (c : In-Separate) → let b = c.args.image.now in opening b ≡ values (layout_for b c.in-Separate.s)
-found c = sym c.«open».ensures ∙ ap (opened_of _) c.in-Separate.is
-
-laid : (c : After-layout_of) → opening c.args.image.now ≡ values c.layout_of.result
-laid c = found (goal.at.After-layout_of c).In-Separate ∙ ap values (sym c.layout_of.ensures)
-
-pub check_planes-requires : goal.check_planes-requires
-check_planes-requires c = opened _ _ (laid c)
-
-pub returns-in-Refused : goal.returns-in-Refused
+pub returns-in_err-image : goal.returns-in_err-image
 unfolding grid_check
-returns-in-Refused c = rw (sym c.«open».ensures ∙ ap (opened_of _) c.in-Refused.is)
+returns-in_err-image c =
+    let p = err_from_is_err_and c.from_residual.result c.from_residual.ensures.1 in
+    rw (p.1, p.2, ← c.in_err-image.ensures.layout)
 
-pub returns-in-Separate : goal.returns-in-Separate
+pub returns : goal.returns
 unfolding grid_check
-returns-in-Separate c = rw (laid (goal.at.returns-in-Separate c).After-layout_of) c.check_planes.ensures
+returns c = rw (← c.in_ok-image.ensures.layout, ← c.in_ok-image.ensures.bytes) c.check_planes.ensures

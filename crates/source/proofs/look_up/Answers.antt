@@ -3,9 +3,9 @@ use mathlib.Core.Path.{◌∙◌}
 use Rattle.source.proofs.Sources.{nodes_asked, grids_asked}
 use Rattle.source.proofs.look_up.Goals as goal
 
-pub returns-then-l : goal.returns-then-l
-returns-then-l c = c.look_up_grids.ensures ∙ grids_asked _ _ c.if-l.true
+pub returns-then-image : goal.returns-then-image
+returns-then-image c = c.look_up_grids.ensures ∙ grids_asked _ _ c.if-image.true
 
-pub returns : goal.returns
-returns c =
-    c.look_up_nodes.ensures ∙ nodes_asked _ c.args.q c.if-l.false (c.requires.layout.height_geometry c.if-l.false)
+pub returns-else-image : goal.returns-else-image
+returns-else-image c =
+    c.look_up_nodes.ensures ∙ nodes_asked _ c.args.q c.if-image.false (c.args.image.now.fits.height_geometry c.if-image.false)

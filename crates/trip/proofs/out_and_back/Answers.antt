@@ -1,37 +1,27 @@
 -- `trip::out_and_back` meets its contract: the way out, and its answer taken back.
 use mathlib.Core.Path.{◌≡◌, sym, ap, ◌∙◌}
-use mir.Facts.{to_z-of_z}
-use Rattle.rules.specs.Answers.{values}
-use Rattle.rules.specs.Ways.{Accepted, with_height, without_height, way_out, answer_of}
+use Rattle.std.proofs.lemmas.Result.{err_from_is_err_and}
+use Rattle.std.proofs.Common.{⊎_elim}
+use Rattle.rules.specs.Ways.{accepted_of}
 use Rattle.rules.specs.Trip.{out_then_back}
 use Rattle.trip.specs.Back.{same_number}
 use Rattle.trip.proofs.Numbers.{position_alone}
 use Rattle.trip.proofs.out_and_back.Goals as goal
-use Rattle.trip.proofs.out_and_back.Goals.{After-convert}
 
-went : (c : After-convert) → let s = c.args in
-    answer_of c.convert.result ≡ way_out s.image.now s.p s.height
-went c = rw (to_z-of_z c.ranges.height) at c.convert.ensures
-
--- the trip is what came back of an answer
-trip_is : (c : After-convert) (a : Accepted) → let s = c.args in
-    way_out s.image.now s.p s.height ≡ values a
-    → same_number s.image.now a.position ≡ out_then_back s.image.now s.p s.height
+pub returns-in_err-a : goal.returns-in_err-a
 unfolding out_then_back
-trip_is c a e = let s = c.args in rw e (position_alone s.image.now s.p s.height a e)
+returns-in_err-a c =
+    let p = err_from_is_err_and c.from_residual.result c.from_residual.ensures.1 in
+    let no = c.in_err-a.ensures in
+    rw (p.1, p.2, ← no)
 
-pub returns-in-Values : goal.returns-in-Values
-returns-in-Values c =
-    c.taken_back.ensures
-    ∙ trip_is (goal.at.returns-in-Values c).After-convert (with_height c.in-Values.a)
-    (sym (went (goal.at.returns-in-Values c).After-convert) ∙ ap answer_of c.in-Values.is)
-
-pub returns-in-WithoutHeight : goal.returns-in-WithoutHeight
-returns-in-WithoutHeight c =
-    c.taken_back-in-WithoutHeight.ensures
-    ∙ trip_is (goal.at.returns-in-WithoutHeight c).After-convert (without_height c.in-WithoutHeight.a)
-    (sym (went (goal.at.returns-in-WithoutHeight c).After-convert) ∙ ap answer_of c.in-WithoutHeight.is)
-
-pub returns-in-Refused : goal.returns-in-Refused
+pub returns : goal.returns
 unfolding out_then_back
-returns-in-Refused c = rw (sym (went (goal.at.returns-in-Refused c).After-convert) ∙ ap answer_of c.in-Refused.is)
+returns c =
+    let s = c.args in
+    let found = c.in_ok-a.field-0 in
+    let went = c.in_ok-a.ensures in
+    let position : (accepted_of found).position ≡ c.in-WithHeight.a =
+    ⊎_elim (ap (λ v. (accepted_of v).position)) (ap (λ v. (accepted_of v).position)) c.in-WithHeight.is in
+    let alone = position_alone s.image.now s.fix.point s.fix.height (accepted_of found) (sym went) in
+    rw (← went) (c.taken_back.ensures ∙ ap (same_number s.image.now) (sym position) ∙ alone)

@@ -1,22 +1,14 @@
 -- `vdatum::all_heights_fit` meets its contract.
-use Rattle.std.proofs.Common.{arith, refl}
-use Rattle.std.proofs.lemmas.Grind.{common_steps}
-use Rattle.rules.specs.Check.{every}
+use Rattle.std.proofs.Common.{refl, ◌∙◌, rules, arith}
+use Rattle.std.proofs.lemmas.Iterator.{YieldsList-from_range}
+use Rattle.std.proofs.lemmas.Iterator.Search.{all_from_yields_List}
 use Rattle.rules.specs.Vdatum.{height_fits, question17}
-use Rattle.rules.proofs.Largest.{every_more, every_missed}
+use Rattle.floats.proofs.Every.{all_is_every}
 use Rattle.vdatum.proofs.all_heights_fit.Goals as goal
-
-pub loop-n-init : goal.loop-n-init
-unfolding every
-loop-n-init c = (omega arith, refl)
-
-pub returns-then-not-height_fits : goal.returns-then-not-height_fits
-unfolding question17
-returns-then-not-height_fits c = grind (arith, common_steps, every_missed c.args.nodes (height_fits c.args.file.now) c.loop-n.n)
-
-pub loop-n-preserved : goal.loop-n-preserved
-loop-n-preserved c = grind (arith, common_steps, every_more)
 
 pub returns : goal.returns
 unfolding question17
-returns c = grind (arith, common_steps)
+returns c =
+    let n = c.args.nodes in
+    let t = height_fits c.args.file.now in
+    all_from_yields_List t _ _ _ c.all.ensures.ran (YieldsList-from_range 0 n n refl (omega arith)) (λ x b q k. search rules) ∙ all_is_every n t

@@ -1,8 +1,6 @@
 -- The invariant of `vdatum::write_heights`: the first n nodes are written.
 use mathlib.Core.List.{List}
-use mathlib.Core.Path.{◌≡◌}
-use Prim.Native.Nat.{ℕ, ◌*◌, ◌-◌, ◌≤◌}
-use lib.ListN.{length}
+use Prim.Native.Nat.{ℕ}
 use Rattle.rules.specs.Vdatum.{height_of}
 use Rattle.rules.specs.Files.{bytes_of}
 use Rattle.rules.proofs.Buffer.{Written}
@@ -13,7 +11,4 @@ abbrev pub height_bytes_at : List ℕ → ℕ → List ℕ
 height_bytes_at b n = bytes_of (height_of b n)
 
 abbrev pub invariant-loop-n : goal.invariant-loop-n
-invariant-loop-n l = (l.n ≤ l.count) × (length l.nodes ≡ 4 * l.count) × Written 4 (height_bytes_at l.file) l.nodes l.n
-
-abbrev pub decreases-loop-n : goal.decreases-loop-n
-decreases-loop-n l = l.count - l.n
+invariant-loop-n l = Written 4 (height_bytes_at l.file) l.nodes l.n

@@ -2,7 +2,7 @@
 use mathlib.Core.Path.{◌≡◌, sym, ◌∙◌}
 use Prim.Native.Nat.{◌+◌}
 use native.Mathlib.Omega.{arith}
-use Rattle.integers.specs.Booleans.{and_left, and_right, and_next, and_stop}
+use Rattle.integers.specs.Booleans.{and_left, and_right, and_next}
 use Rattle.rules.specs.Image.{correction_back_of}
 use Rattle.rules.specs.Questions.{question3, of_both, back_passes, all_backs_pass}
 use Rattle.rules.proofs.Opening.{nodes_most, backs_are}
@@ -33,7 +33,3 @@ returns-then-backs_pass c =
     and_next c.backs_pass.ensures c.if-backs_pass.true
     (c.back_passes.ensures
     ∙ (λ i. back_passes s.d.back (c.bytes_of.ensures.0 i + 36 + back (goal.at.returns-then-backs_pass c).Then-backs_pass i) s.size))
-
-pub returns-else-backs_pass : goal.returns-else-backs_pass
-unfolding all_backs_pass
-returns-else-backs_pass c = and_stop _ c.backs_pass.ensures c.if-backs_pass.false

@@ -1,58 +1,24 @@
--- `verdicts::judged` meets its contract: each return is one question's no, with the questions before it yes.
-use mathlib.Core.Path.{refl, sym, ◌∙◌}
-use Rattle.rules.specs.Questions.{judge}
+-- `verdicts::judged` meets its contract: the edition, the grid's questions and the bytes, in this order.
+use Rattle.std.proofs.lemmas.Result.{err_from_is_err_and}
+use Rattle.rules.specs.Questions.{question3}
+use Rattle.verdicts.proofs.Grids.{grid_of_one, judge_is, passed, stopped, last, grids_pass, of_one_pass}
 use Rattle.verdicts.proofs.judged.Goals as goal
 
-pub returns-then-not-edition_passes : goal.returns-then-not-edition_passes
-unfolding judge
-returns-then-not-edition_passes c =
-    rw (sym c.edition_passes.ensures ∙ c.if-not-edition_passes.true) refl
+pub returns-in_err-ask : goal.returns-in_err-ask
+returns-in_err-ask c =
+    let p = err_from_is_err_and c.from_residual.result c.from_residual.ensures.1 in
+    rw (p.1, p.2, judge_is) (stopped _ 2 _ _ c.in_err-ask.ensures)
 
-pub returns-then-not-counts_pass : goal.returns-then-not-counts_pass
-unfolding judge
-returns-then-not-counts_pass c =
-    rw (
-      sym c.edition_passes.ensures ∙ c.if-not-edition_passes.false,
-      sym c.counts_pass.ensures ∙ c.if-not-counts_pass.true,
-    ) refl
+pub returns-in_err-grids_judged : goal.returns-in_err-grids_judged
+returns-in_err-grids_judged c =
+    let r = c.from_residual-in_err-grids_judged in
+    let p = err_from_is_err_and r.result r.ensures.1 in
+    rw (p.1, p.2, judge_is, passed _ _ c.in_ok-ask.ensures, ← c.in_err-grids_judged.ensures)
 
-pub returns-then-not-spacings_pass : goal.returns-then-not-spacings_pass
-unfolding judge
-returns-then-not-spacings_pass c =
-    rw (
-      sym c.edition_passes.ensures ∙ c.if-not-edition_passes.false,
-      sym c.counts_pass.ensures ∙ c.if-not-counts_pass.false,
-      sym c.spacings_pass.ensures ∙ c.if-not-spacings_pass.true,
-    ) refl
-
-pub returns-then-not-bounds_pass : goal.returns-then-not-bounds_pass
-unfolding judge
-returns-then-not-bounds_pass c =
-    rw (
-      sym c.edition_passes.ensures ∙ c.if-not-edition_passes.false,
-      sym c.counts_pass.ensures ∙ c.if-not-counts_pass.false,
-      sym c.spacings_pass.ensures ∙ c.if-not-spacings_pass.false,
-      sym c.bounds_pass.ensures ∙ c.if-not-bounds_pass.true,
-    ) refl
-
-pub returns-then-not-bytes_pass : goal.returns-then-not-bytes_pass
-unfolding judge
-returns-then-not-bytes_pass c =
-    rw (
-      sym c.edition_passes.ensures ∙ c.if-not-edition_passes.false,
-      sym c.counts_pass.ensures ∙ c.if-not-counts_pass.false,
-      sym c.spacings_pass.ensures ∙ c.if-not-spacings_pass.false,
-      sym c.bounds_pass.ensures ∙ c.if-not-bounds_pass.false,
-      sym c.bytes_pass.ensures ∙ c.if-not-bytes_pass.true,
-    ) refl
+pub bytes_pass-requires : goal.bytes_pass-requires
+bytes_pass-requires c = of_one_pass question3 c.args.t (grids_pass (grid_of_one c.args.t) c.in_ok-grids_judged.ensures).0
 
 pub returns : goal.returns
-unfolding judge
 returns c =
-    rw (
-      sym c.edition_passes.ensures ∙ c.if-not-edition_passes.false,
-      sym c.counts_pass.ensures ∙ c.if-not-counts_pass.false,
-      sym c.spacings_pass.ensures ∙ c.if-not-spacings_pass.false,
-      sym c.bounds_pass.ensures ∙ c.if-not-bounds_pass.false,
-      sym c.bytes_pass.ensures ∙ c.if-not-bytes_pass.false,
-    ) refl
+    rw (judge_is, passed _ _ c.in_ok-ask.ensures, ← c.in_ok-grids_judged.ensures)
+    (last _ _ _ 6 _ c.ask-2.ensures c.bytes_pass.ensures)

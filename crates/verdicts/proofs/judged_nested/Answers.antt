@@ -1,67 +1,35 @@
--- `verdicts::judged_nested` meets its contract: each return is one question's no, with the questions before it yes.
-use mathlib.Core.Path.{refl, sym, ◌∙◌}
-use Rattle.rules.specs.Questions.{judge_nested}
+-- `verdicts::judged_nested` meets its contract: the questions of all grids, the bytes and question 20, in this order.
+use Rattle.std.proofs.lemmas.Result.{err_from_is_err_and}
+use Rattle.rules.specs.Questions.{question3, question4, question5}
 use Rattle.rules.proofs.Opening.{all_pass_lem}
+use Rattle.verdicts.proofs.Grids.{grids_nested, judge_nested_is, passed, stopped, last, grids_pass, of_all_pass}
 use Rattle.verdicts.proofs.judged_nested.Goals as goal
 
-pub returns-then-not-all_counts_pass : goal.returns-then-not-all_counts_pass
-unfolding judge_nested
-returns-then-not-all_counts_pass c =
-    rw (sym c.all_counts_pass.ensures ∙ c.if-not-all_counts_pass.true) refl
+pub returns-in_err-grids_judged : goal.returns-in_err-grids_judged
+returns-in_err-grids_judged c =
+    let p = err_from_is_err_and c.from_residual.result c.from_residual.ensures.1 in
+    rw (p.1, p.2, judge_nested_is, ← c.in_err-grids_judged.ensures)
 
-pub returns-then-not-all_spacings_pass : goal.returns-then-not-all_spacings_pass
-unfolding judge_nested
-returns-then-not-all_spacings_pass c =
-    rw (
-      sym c.all_counts_pass.ensures ∙ c.if-not-all_counts_pass.false,
-      sym c.all_spacings_pass.ensures ∙ c.if-not-all_spacings_pass.true,
-    ) refl
+pub all_backs_pass-requires : goal.all_backs_pass-requires
+all_backs_pass-requires c =
+    of_all_pass question3 c.args.d c.args.t (grids_pass (grids_nested c.args.d c.args.t) c.in_ok-grids_judged.ensures).0
 
-pub returns-then-not-all_bounds_pass : goal.returns-then-not-all_bounds_pass
-unfolding judge_nested
-returns-then-not-all_bounds_pass c =
-    rw (
-      sym c.all_counts_pass.ensures ∙ c.if-not-all_counts_pass.false,
-      sym c.all_spacings_pass.ensures ∙ c.if-not-all_spacings_pass.false,
-      sym c.all_bounds_pass.ensures ∙ c.if-not-all_bounds_pass.true,
-    ) refl
-
-pub returns-then-not-all_backs_pass : goal.returns-then-not-all_backs_pass
-unfolding judge_nested
-returns-then-not-all_backs_pass c =
-    rw (
-      sym c.all_counts_pass.ensures ∙ c.if-not-all_counts_pass.false,
-      sym c.all_spacings_pass.ensures ∙ c.if-not-all_spacings_pass.false,
-      sym c.all_bounds_pass.ensures ∙ c.if-not-all_bounds_pass.false,
-      sym c.all_backs_pass.ensures ∙ c.if-not-all_backs_pass.true,
-    ) refl
+pub returns-in_err-ask : goal.returns-in_err-ask
+returns-in_err-ask c =
+    let p = err_from_is_err_and c.from_residual-in_err-ask.result c.from_residual-in_err-ask.ensures.1 in
+    rw (p.1, p.2, judge_nested_is, ← c.in_ok-grids_judged.ensures, ← c.all_backs_pass.ensures) (stopped _ 6 _ _ c.in_err-ask.ensures)
 
 -- each grid passes 3 to 5, whichever is asked: of that it is said in the results
 pub is_aligned-requires : goal.is_aligned-requires
 is_aligned-requires c =
-    let all = all_pass_lem c.args.d c.args.t (sym c.all_counts_pass.ensures
-    ∙ c.if-not-all_counts_pass.false) (sym c.all_spacings_pass.ensures ∙ c.if-not-all_spacings_pass.false) (sym c.all_bounds_pass.ensures
-    ∙ c.if-not-all_bounds_pass.false) in
+    let d = c.args.d in
+    let t = c.args.t in
+    let each = grids_pass (grids_nested d t) c.in_ok-grids_judged.ensures in
+    let all =
+    all_pass_lem d t (of_all_pass question3 d t each.0) (of_all_pass question4 d t each.1) (of_all_pass question5 d t each.2) in
     search (all.0.0, all.1)
 
-pub returns-then-not-is_aligned : goal.returns-then-not-is_aligned
-unfolding judge_nested
-returns-then-not-is_aligned c =
-    rw (
-      sym c.all_counts_pass.ensures ∙ c.if-not-all_counts_pass.false,
-      sym c.all_spacings_pass.ensures ∙ c.if-not-all_spacings_pass.false,
-      sym c.all_bounds_pass.ensures ∙ c.if-not-all_bounds_pass.false,
-      sym c.all_backs_pass.ensures ∙ c.if-not-all_backs_pass.false,
-      sym c.is_aligned.ensures ∙ c.if-not-is_aligned.true,
-    ) refl
-
 pub returns : goal.returns
-unfolding judge_nested
 returns c =
-    rw (
-      sym c.all_counts_pass.ensures ∙ c.if-not-all_counts_pass.false,
-      sym c.all_spacings_pass.ensures ∙ c.if-not-all_spacings_pass.false,
-      sym c.all_bounds_pass.ensures ∙ c.if-not-all_bounds_pass.false,
-      sym c.all_backs_pass.ensures ∙ c.if-not-all_backs_pass.false,
-      sym c.is_aligned.ensures ∙ c.if-not-is_aligned.false,
-    ) refl
+    rw (judge_nested_is, ← c.in_ok-grids_judged.ensures, ← c.all_backs_pass.ensures, passed _ _ c.in_ok-ask.ensures)
+    (last _ _ _ 20 _ c.ask-2.ensures c.is_aligned.ensures)

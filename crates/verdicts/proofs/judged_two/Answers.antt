@@ -1,58 +1,24 @@
--- `verdicts::judged_two` meets its contract: each return is one question's no, with the questions before it yes.
-use mathlib.Core.Path.{refl, sym, ◌∙◌}
-use Rattle.rules.specs.Questions.{judge_two}
+-- `verdicts::judged_two` meets its contract: the kind, the questions of both grids and the bytes, in this order.
+use Rattle.std.proofs.lemmas.Result.{err_from_is_err_and}
+use Rattle.rules.specs.Questions.{question3}
+use Rattle.verdicts.proofs.Grids.{grids_of_two, judge_two_is, passed, stopped, last, grids_pass, of_both_pass}
 use Rattle.verdicts.proofs.judged_two.Goals as goal
 
-pub returns-then-not-kind_passes : goal.returns-then-not-kind_passes
-unfolding judge_two
-returns-then-not-kind_passes c =
-    rw (sym c.kind_passes.ensures ∙ c.if-not-kind_passes.true) refl
+pub returns-in_err-ask : goal.returns-in_err-ask
+returns-in_err-ask c =
+    let p = err_from_is_err_and c.from_residual.result c.from_residual.ensures.1 in
+    rw (p.1, p.2, judge_two_is, ← c.kind_passes.ensures) (stopped _ 2 _ _ c.in_err-ask.ensures)
 
-pub returns-then-not-both_counts_pass : goal.returns-then-not-both_counts_pass
-unfolding judge_two
-returns-then-not-both_counts_pass c =
-    rw (
-      sym c.kind_passes.ensures ∙ c.if-not-kind_passes.false,
-      sym c.both_counts_pass.ensures ∙ c.if-not-both_counts_pass.true,
-    ) refl
+pub returns-in_err-grids_judged : goal.returns-in_err-grids_judged
+returns-in_err-grids_judged c =
+    let r = c.from_residual-in_err-grids_judged in
+    let p = err_from_is_err_and r.result r.ensures.1 in
+    rw (p.1, p.2, judge_two_is, ← c.kind_passes.ensures, passed _ _ c.in_ok-ask.ensures, ← c.in_err-grids_judged.ensures)
 
-pub returns-then-not-both_spacings_pass : goal.returns-then-not-both_spacings_pass
-unfolding judge_two
-returns-then-not-both_spacings_pass c =
-    rw (
-      sym c.kind_passes.ensures ∙ c.if-not-kind_passes.false,
-      sym c.both_counts_pass.ensures ∙ c.if-not-both_counts_pass.false,
-      sym c.both_spacings_pass.ensures ∙ c.if-not-both_spacings_pass.true,
-    ) refl
-
-pub returns-then-not-both_bounds_pass : goal.returns-then-not-both_bounds_pass
-unfolding judge_two
-returns-then-not-both_bounds_pass c =
-    rw (
-      sym c.kind_passes.ensures ∙ c.if-not-kind_passes.false,
-      sym c.both_counts_pass.ensures ∙ c.if-not-both_counts_pass.false,
-      sym c.both_spacings_pass.ensures ∙ c.if-not-both_spacings_pass.false,
-      sym c.both_bounds_pass.ensures ∙ c.if-not-both_bounds_pass.true,
-    ) refl
-
-pub returns-then-not-backs_pass : goal.returns-then-not-backs_pass
-unfolding judge_two
-returns-then-not-backs_pass c =
-    rw (
-      sym c.kind_passes.ensures ∙ c.if-not-kind_passes.false,
-      sym c.both_counts_pass.ensures ∙ c.if-not-both_counts_pass.false,
-      sym c.both_spacings_pass.ensures ∙ c.if-not-both_spacings_pass.false,
-      sym c.both_bounds_pass.ensures ∙ c.if-not-both_bounds_pass.false,
-      sym c.backs_pass.ensures ∙ c.if-not-backs_pass.true,
-    ) refl
+pub backs_pass-requires : goal.backs_pass-requires
+backs_pass-requires c = of_both_pass question3 c.args.t (grids_pass (grids_of_two c.args.t) c.in_ok-grids_judged.ensures).0
 
 pub returns : goal.returns
-unfolding judge_two
 returns c =
-    rw (
-      sym c.kind_passes.ensures ∙ c.if-not-kind_passes.false,
-      sym c.both_counts_pass.ensures ∙ c.if-not-both_counts_pass.false,
-      sym c.both_spacings_pass.ensures ∙ c.if-not-both_spacings_pass.false,
-      sym c.both_bounds_pass.ensures ∙ c.if-not-both_bounds_pass.false,
-      sym c.backs_pass.ensures ∙ c.if-not-backs_pass.false,
-    ) refl
+    rw (judge_two_is, ← c.kind_passes.ensures, passed _ _ c.in_ok-ask.ensures, ← c.in_ok-grids_judged.ensures)
+    (last _ _ _ 6 _ c.ask-2.ensures c.backs_pass.ensures)

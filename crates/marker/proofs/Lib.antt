@@ -1,2 +1,0 @@
--- A law of the numbers that are handed back.
-pub mod HandedBack

@@ -1,2 +1,0 @@
--- Laws of numbers by their sign.
-pub mod Signs

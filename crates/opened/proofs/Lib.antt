@@ -1,0 +1,2 @@
+-- What opening an image says of the record.
+pub mod Opening

@@ -1,0 +1,2 @@
+-- What reading an image answers.
+pub mod Read

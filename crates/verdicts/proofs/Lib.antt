@@ -1,0 +1,2 @@
+-- Laws of judging a trailer.
+pub mod Grids

@@ -1,0 +1,2 @@
+-- Laws of a conversion over an opened image.
+pub mod Edge
