@@ -1,12 +1,19 @@
-// Numbers as the machine holds them: the distance of two, limits, the little-endian numbers of an image, read and written, and the
-// big-endian ones of a VDatum file.
+// Numbers as the machine holds them: the size of a signed number, the distance of two, limits, the smaller and the larger of two, the
+// little-endian numbers of an image, read and written, and the big-endian ones of a VDatum file.
 #![tactic(auto)]
 
-ghost use Rattle.std.specs.Prelude.{◌&&◌, ◌++◌, ◌≡◌, ◌+◌, ◌≤◌, ◌<◌, nat_abs, ◌-ℤ◌, length, take, drop};
+ghost use Rattle.std.specs.Prelude.{◌&&◌, ◌++◌, ◌≡◌, ◌+◌, ◌≤◌, ◌<◌, min, max, nat_abs, ◌-ℤ◌, length, take, drop};
 ghost use Rattle.rules.specs.Units.{between, within};
 ghost use Rattle.rules.specs.Image.{u32_at, u64_at, i32_at, i64_at};
 ghost use Rattle.rules.specs.Files.{natural, bytes_of};
 ghost use Rattle.rules.specs.Vdatum.{big_u32_at, big_u64_at, big_i32_at};
+
+// The distance from zero.
+pub fn magnitude(z: i64) -> u64
+    ensures { result ≡ nat_abs z }
+{
+    z.unsigned_abs()
+}
 
 // The number itself, of which a negative one becomes 0.
 pub fn natural_of(z: i64) -> u64
@@ -45,6 +52,20 @@ pub fn is_between(n: u64, low: u64, high: u64) -> bool
     ensures { result ≡ between low high n }
 {
     low <= n && n <= high
+}
+
+// The smaller of two numbers.
+pub fn smaller(a: u64, b: u64) -> u64
+    ensures { result ≡ min a b }
+{
+    a.min(b)
+}
+
+// The larger of two numbers.
+pub fn larger(a: u64, b: u64) -> u64
+    ensures { result ≡ max a b }
+{
+    a.max(b)
 }
 
 // The unsigned number of four bytes, the lowest first.
