@@ -4,79 +4,96 @@
 mod fit;
 
 ghost use Rattle.std.specs.Prelude.{◌≡◌, IfOk, true, ◌≤◌, length};
-ghost use Rattle.rules.specs.Answers.{outcome_of};
+ghost use Rattle.rules.specs.Answers.{values};
 ghost use Rattle.rules.specs.Image.{two_grid_trailer_of, is_nested, is_unbounded, is_in_planes, correction_stride, to_longitudes};
 ghost use Rattle.rules.specs.Image.{height_back_of, correction_back_of};
-ghost use Rattle.rules.specs.Image.{layout_of, two_grid_layout_of, nested_layout_of};
+ghost use Rattle.rules.specs.Image.{layout_of, two_grid_layout_of, nested_layout_of, layout_for};
 ghost use Rattle.rules.specs.Questions.{question6, backs_pass, all_backs_pass, opening, opening_two, opening_nested};
-ghost use Rattle.image.specs.Fit.{layout_found};
+ghost use Rattle.verdicts.specs.Verdict.{verdict_of};
+ghost use Rattle.image.specs.Fit.{layout_found, layout_by};
 
 pub use fit::FitImage;
 use rules::{GridTrailer, Layout, Plane, Refusal, Trailer, TwoGridTrailer};
 use trailers::{read_dense_trailer, read_edition, read_trailer, read_two_grid_trailer};
 use verdicts::{judged, judged_nested, judged_two};
 
-// Questions 1 to 6, and 20, of any image: the fit image, or the refusal. All of the opening is compiled into its callers: the compiler clears
-// and copies so large a result by calls of C's functions, and the library needs none (include/marker.h).
+// Questions 1 to 6, and 20, of any image: the fit image, or the refusal. It is compiled into its callers, as all that makes the layout is:
+// the compiler clears and copies so large a result by calls of C's functions, and the library needs none (include/marker.h). The questions
+// are a call, which hands back little.
 #[inline(always)]
 pub fn open(image: &[u8]) -> Result<FitImage<'_>, Refusal>
     ensures layout { layout_found result ≡ opening image.now }
     ensures bytes { IfOk result (λ fit. fit.bytes ≡ image.entry) }
 {
-    let layout = layout_in(image)?;
+    let separate = is_separate(image)?;
+    let layout = layout_of(image, separate);
     Ok(FitImage {
         bytes: image,
         layout,
     })
 }
 
-// The same: where its values lie.
-#[inline(always)]
-fn layout_in(image: &[u8]) -> Result<Layout, Refusal>
-    ensures { outcome_of result ≡ opening image.now }
+// The same questions: whether the heights stand on a separate grid, by which the layout is read, or the refusal. It is a call, so that the
+// trailers that are judged take none of the callers' stack.
+#[inline(never)]
+fn is_separate(image: &[u8]) -> Result<bool, Refusal>
+    ensures { layout_by image.now result ≡ opening image.now }
 {
     if image.len() < 40 {
         return Err(Refusal::ImageLength);
     }
     if read_edition(image) == 2 {
-        return open_two(image);
+        ask_two(image)?;
+        return Ok(true);
     }
-    let size = image.len() as u64;
-    let t = read_trailer(image);
-    judged(t, size)?;
-    Ok(nodes_layout(t, size))
+    judged(read_trailer(image), image.len() as u64)?;
+    Ok(false)
 }
 
 // The same of edition 2.
-#[inline(always)]
-fn open_two(image: &[u8]) -> Result<Layout, Refusal>
-    ensures { outcome_of result ≡ opening_two image.now }
+fn ask_two(image: &[u8]) -> Result<(), Refusal>
+    ensures { verdict_of (layout_for image.now true) result ≡ opening_two image.now }
 {
     if image.len() < 80 {
         return Err(Refusal::ImageLength);
     }
-    let size = image.len() as u64;
     let t = read_two_grid_trailer(image);
     if is_nested(t) {
-        return open_nested(image, t);
+        return ask_nested(image, t);
     }
-    judged_two(t, size)?;
-    Ok(two_grid_layout(t, size))
+    judged_two(t, image.len() as u64)
 }
 
 // The same of kind 1, by the trailer t. The length is at least 80, so the first difference fits where the sum with any back might not.
-#[inline(always)]
-fn open_nested(image: &[u8], t: TwoGridTrailer) -> Result<Layout, Refusal>
+fn ask_nested(image: &[u8], t: TwoGridTrailer) -> Result<(), Refusal>
     requires { (80 ≤ length image.now) × (t ≡ two_grid_trailer_of image.now) × (is_nested t ≡ true) }
-    ensures { outcome_of result ≡ opening_nested image.now }
+    ensures { verdict_of (layout_for image.now true) result ≡ opening_nested image.now }
 {
     let size = image.len() as u64;
     if size - 36 < t.corrections.back {
         return Err(Refusal::ImageLength);
     }
-    let d = read_dense_trailer(image, t.corrections.back);
-    judged_nested(d, t, size)?;
-    Ok(nested_layout(d, t, size))
+    judged_nested(read_dense_trailer(image, t.corrections.back), t, size)
+}
+
+// The layout of an image that opened, read from its trailer once more: handed on by the questions, its many numbers would take longer.
+#[inline(always)]
+pub fn layout_of(image: &[u8], separate: bool) -> Layout
+    requires { opening image.now ≡ values (layout_for image.now separate) }
+    ensures { result ≡ layout_for image.now separate }
+{
+    if separate {
+        let t = read_two_grid_trailer(image);
+        if is_nested(t) {
+            return nested_layout(
+                read_dense_trailer(image, t.corrections.back),
+                t,
+                image.len() as u64,
+            );
+        }
+        return two_grid_layout(t, image.len() as u64);
+    }
+    nodes_layout(read_trailer(image), image.len() as u64)
 }
 
 // Edition 1's layout, in an image of so many bytes: a node is latitude correction, longitude correction and quasi-geoid height, of four

@@ -1,7 +1,7 @@
 -- What opening an image says of the record, and of the image where it refuses.
 --     found    the record has the image's bytes, and the layout that these open with
 --     refused  the bytes do not open
-use Rattle.std.proofs.Common.{◌≡◌, ℕ, List, ap, sym, arith}
+use Rattle.std.proofs.Common.{◌≡◌, ℕ, List, ap, arith}
 use Rattle.std.specs.Borrow.{Bor}
 use Rattle.rules.specs.declared.Layout.{Layout}
 use Rattle.rules.specs.Answers.{Outcome, values, number, mapped}

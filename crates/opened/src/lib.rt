@@ -91,20 +91,36 @@ fn out_fit(bytes: &[u8], layout: Layout, f: Fix) -> Result<Converted, Refusal>
     convert_over(Way::Out, &FitImage { bytes, layout }, f)
 }
 
+// The record made and handed on, for the way out and for the lookup.
+fn out_through(bytes: &[u8], layout: Layout, f: Fix) -> Result<Converted, Refusal>
+    requires { Opens bytes.now layout f }
+    ensures { IsOut bytes.now layout f result }
+{
+    through(bytes, layout, f, out_over_image)
+}
+
+fn look_up_through(bytes: &[u8], layout: Layout, p: Point) -> Result<Option<i64>, Refusal>
+    requires { OpenFor bytes.now layout p }
+    ensures { IsLookup bytes.now layout p result }
+{
+    through(bytes, layout, p, look_up_in)
+}
+
 // The way out through an opened image, for every image, point and height: questions 1 to 6 first.
 pub fn way_out(bytes: &[u8], fix: Fix) -> Result<Converted, Refusal>
     ensures { answer_of result ≡ way_out bytes.now fix.point fix.height }
 {
-    out_over_image(open(bytes)?, fix)
+    let layout = open(bytes)?.layout;
+    out_through(bytes, layout, fix)
 }
 
 // The quasi-geoid height through an opened image, for every image and point: questions 1 to 6 first, then 8, then the lookup.
 pub fn quasi_geoid_height(bytes: &[u8], q: Point) -> Result<Option<i64>, Refusal>
     ensures { outcome_of result ≡ quasi_geoid_height bytes.now q }
 {
-    let image = open(bytes)?;
-    if !is_inside(image.layout, q) {
+    let layout = open(bytes)?.layout;
+    if !is_inside(layout, q) {
         return Err(Refusal::OutsideBounds);
     }
-    look_up_in(image, q)
+    look_up_through(bytes, layout, q)
 }

@@ -1,2 +1,0 @@
--- Laws of the opening.
-pub mod Passed
