@@ -253,16 +253,16 @@ enum {
  * grow with the image, the list or the file. The seventh argument of marker_corrections_from_ntv2 is not counted: its caller puts it on
  * the stack before. */
 enum {
-    MARKER_CODE_BYTES = 31347,
-    MARKER_GRID_CHECK_STACK = 832,
-    MARKER_LIST_OUT_STACK = 1312,
-    MARKER_LIST_BACK_STACK = 1296,
+    MARKER_CODE_BYTES = 28363,
+    MARKER_GRID_CHECK_STACK = 768,
+    MARKER_LIST_OUT_STACK = 1072,
+    MARKER_LIST_BACK_STACK = 1056,
     MARKER_READ_NOTATION_STACK = 8,
     MARKER_WRITE_NOTATION_STACK = 8,
     MARKER_HEIGHTS_FROM_VDATUM_STACK = 184,
     MARKER_CORRECTIONS_FROM_NTV2_STACK = 440,
-    MARKER_PLANES_FROM_NODES_STACK = 592,
-    MARKER_NODES_FROM_PLANES_STACK = 592
+    MARKER_PLANES_FROM_NODES_STACK = 240,
+    MARKER_NODES_FROM_PLANES_STACK = 240
 };
 
 /* The grid check. Gives 0 with the findings written, or 1 to 6, 20, 9, 22, 12 or 21. */

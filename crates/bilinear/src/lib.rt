@@ -44,7 +44,8 @@ pub struct Rows {
 }
 
 // The bilinear value of four corner values, two by two, south row first, at a place in a cell of these spacings. The near case, by far the
-// most frequent, is compiled into the callers; the other is a call.
+// most frequent, is compiled into the callers; the other is a call. What that call is handed goes through memory, so it gets a square of
+// its own, and the near case writes none.
 #[inline(always)]
 pub fn weigh(corners: [[i64; 2]; 2], at: PlaceInCell, s: Spacings) -> i64
     requires { CornersWithin correction_limit (square_of corners) × InCell s at }
@@ -54,7 +55,7 @@ pub fn weigh(corners: [[i64; 2]; 2], at: PlaceInCell, s: Spacings) -> i64
     if are_near(c, s.latitude * s.longitude) {
         return weigh_near(c, at, s);
     }
-    weigh_any(c, at, s)
+    weigh_any(square_of(corners), at, s)
 }
 
 // The corners by their names.
@@ -147,15 +148,16 @@ fn rounded(negative: bool, quotient: u64, remainder: u64, area: u64) -> i64
 }
 
 // A sum, rounded, from its quotient by the area, rounded down, and what that leaves. Below zero its absolute value leaves what is missing
-// to the area, and has one area less, unless nothing is left.
+// to the area, and has one area less, unless nothing is left. The size is taken after the test of the sign: taken before it, the compiler
+// makes a branch on the sign of near corners too.
 fn rounded_sum(whole: i64, rest: u64, area: u64) -> i64
     requires { (nat_abs whole ≤ quotient_most) × (rest < area) }
     ensures { result ≡ rounded_by_cases (whole *ℤ pos area +ℤ pos rest) area }
 {
-    let size = whole.unsigned_abs();
     if whole >= 0 {
-        return rounded(false, size, rest, area);
+        return rounded(false, whole.unsigned_abs(), rest, area);
     }
+    let size = whole.unsigned_abs();
     if rest == 0 {
         return rounded(true, size, 0, area);
     }

@@ -211,7 +211,9 @@ fn height_cell_inside(image: &[u8], p: Plane, q: Point) -> Result<Placed<Square>
     })
 }
 
-// The values between the corners on both grids.
+// The values between the corners on both grids. This and the next two are compiled into the callers too: a call of each would be handed its
+// cell in memory.
+#[inline(always)]
 fn values_on(c: Placed<CorrectionSquares>, h: Placed<Square>) -> PointValues
     requires { CorrectionsWeighed c × HeightsWeighed h }
     ensures { result ≡ values_on c h }
@@ -223,6 +225,7 @@ fn values_on(c: Placed<CorrectionSquares>, h: Placed<Square>) -> PointValues
 }
 
 // The corrections between their corners.
+#[inline(always)]
 fn corrections_between(c: Placed<CorrectionSquares>) -> Correction
     requires { CorrectionsWeighed c }
     ensures { result ≡ corrections_between c }
@@ -234,6 +237,7 @@ fn corrections_between(c: Placed<CorrectionSquares>) -> Correction
 }
 
 // The value between the corners on a height grid.
+#[inline(always)]
 fn height_between(h: Placed<Square>) -> i64
     requires { HeightsWeighed h }
     ensures { result ≡ height_between h }

@@ -28,7 +28,8 @@ pub returns-then-whole-ge0 : goal.returns-then-whole-ge0
 returns-then-whole-ge0 c =
     let s = (goal.at.returns-then-whole-ge0 c).Start in
     let sign : down s.args.whole ≤ up s.args.whole = omega (zarith, rw (whole_read s) at c.if-whole-ge0.true) in
-    told w64 c.rounded.type_inv (rw (size_is (goal.at.returns-then-whole-ge0 c).After-unsigned_abs-size) at c.rounded.ensures)
+    let size : c.unsigned_abs.result ≡ nat_abs c.args.whole = rw (whole_read s) at c.unsigned_abs.ensures.value in
+    told w64 c.rounded.type_inv (rw size at c.rounded.ensures)
     ∙ not_below_zero c.requires.1 c.args.whole sign
 
 pub returns-then-rest-eq0 : goal.returns-then-rest-eq0
